@@ -1,0 +1,8 @@
+//! The edge of the library: where bytes come from, where they go, and the gate round each command.
+//! A source and a sink say by ghost members which bytes they have left or hold, where they tell,
+//! and how many faults they met. Whatever reads or writes in this library does it through these.
+#![tactic(auto)]
+
+mod traits;
+
+pub use traits::{Failed, Gate, Sink, Source};

@@ -1,0 +1,10 @@
+//! The words of the whole library: calls and replies of an ordered map, entries of a history, and
+//! the cells of a tree. Every other crate stands on this one. It has types and definitions, and
+//! the laws over them; it runs nothing.
+#![tactic(auto)]
+
+mod call;
+mod cell;
+
+pub use call::{Call, Entry, Memory, Reply};
+pub use cell::{Counter, Field};
