@@ -28,6 +28,11 @@ abbrev pub AreAbove : ℕ → Pairs → Type 0
 AreAbove k [] = Unit {0}
 AreAbove k (p ∷ ps) = (k < p.0) × AreAbove k ps
 
+-- every key and every value is in range
+abbrev pub AreSmall : Pairs → Type 0
+AreSmall [] = Unit {0}
+AreSmall (p ∷ ps) = ((p.0 ≤ 999999999999999999) × (p.1 ≤ 999999999999999999)) × AreSmall ps
+
 -- the value at a key
 abbrev pub value_at : ℕ → Pairs → Option ℕ
 value_at k [] = None
