@@ -1,5 +1,5 @@
 -- The sorted map: a finite map as the list of its pairs by rising key, and what each call does to it.
-use Rattle.std.specs.Prelude.{ℕ, ◌+◌, ◌<◌, ◌≤◌, ◌==◌, nat_lt, nat_le, if◌then◌else◌, List, [], ◌∷◌, Option, Some, None}
+use Rattle.std.specs.Prelude.{◌≡◌, ℕ, ◌⊎◌, ◌+◌, ◌<◌, ◌≤◌, ◌==◌, nat_lt, nat_le, if◌then◌else◌, List, [], ◌∷◌, Option, Some, None}
 use Rattle.pc_model.specs.declared.call.Call.{Call}
 use Rattle.pc_model.specs.declared.call.Call.TheVariants.{Put, Get, Remove, Ceil, Floor}
 use Rattle.pc_model.specs.declared.call.Reply.{Reply}
@@ -28,10 +28,15 @@ abbrev pub AreAbove : ℕ → Pairs → Type 0
 AreAbove k [] = Unit {0}
 AreAbove k (p ∷ ps) = (k < p.0) × AreAbove k ps
 
--- every key and every value is in range
+-- the key stands in the list
+abbrev pub HasKey : ℕ → Pairs → Type 0
+HasKey k [] = ⊥
+HasKey k (p ∷ ps) = (k ≡ p.0) ⊎ HasKey k ps
+
+-- every key and every value has at most eighteen digits
 abbrev pub AreSmall : Pairs → Type 0
 AreSmall [] = Unit {0}
-AreSmall (p ∷ ps) = ((p.0 ≤ 999999999999999999) × (p.1 ≤ 999999999999999999)) × AreSmall ps
+AreSmall (p ∷ ps) = (p.0 ≤ 999999999999999999) × (p.1 ≤ 999999999999999999) × AreSmall ps
 
 -- the value at a key
 abbrev pub value_at : ℕ → Pairs → Option ℕ
@@ -62,6 +67,21 @@ later p (Some q) = Some q
 abbrev pub floor_of : ℕ → Pairs → Option (ℕ × ℕ)
 floor_of k [] = None
 floor_of k (p ∷ ps) = if nat_le p.0 k then later p (floor_of k ps) else None
+
+-- the first pair
+abbrev pub first_of : Pairs → Option (ℕ × ℕ)
+first_of [] = None
+first_of (p ∷ ps) = Some p
+
+-- the last pair
+abbrev pub last_of : Pairs → Option (ℕ × ℕ)
+last_of [] = None
+last_of (p ∷ ps) = later p (last_of ps)
+
+-- the pair that was found, or else the other
+abbrev pub found_or : Option (ℕ × ℕ) → Option (ℕ × ℕ) → Option (ℕ × ℕ)
+found_or None other = other
+found_or (Some p) other = Some p
 
 abbrev pub was_or_new : Option ℕ → Reply
 was_or_new None = New
