@@ -1,4 +1,5 @@
 pub mod Cells
+pub mod Counts
 pub mod Exchanges
 pub mod History
 pub mod Map

@@ -1,5 +1,5 @@
 -- The tree that cells spell, read from the sentinel's left link, and when cells are sound.
-use Rattle.std.specs.Prelude.{◌≡◌, ℕ, ◌^◌, ◌<◌, ◌⊎◌, List, [], ◌∷◌, ◌++◌}
+use Rattle.std.specs.Prelude.{◌≡◌, ℕ, suc, ◌+◌, ◌^◌, ◌<◌, ◌⊎◌, List, [], ◌∷◌, ◌++◌}
 use Rattle.pc_model.specs.declared.cell.Field.{Field}
 use Rattle.pc_model.specs.declared.cell.Field.TheVariants.{Version, Key, Value, Left, Right, Parent, Height}
 use Rattle.pc_model.specs.Map.{Pairs, IsRising, AreSmall}
@@ -35,6 +35,16 @@ Spells kind slots c (Fork n l r) above link = (link ≡ n) × IsTreeNode kind sl
 abbrev pub IsIn : ℕ → Tree → Type 0
 IsIn n Empty = ⊥
 IsIn n (Fork m l r) = (n ≡ m) ⊎ (IsIn n l ⊎ IsIn n r)
+
+-- how many nodes a tree has
+abbrev pub size_of : Tree → ℕ
+size_of Empty = 0
+size_of (Fork n l r) = suc (size_of l + size_of r)
+
+-- the nodes of a tree in order
+abbrev pub nodes_of : Tree → List ℕ
+nodes_of Empty = []
+nodes_of (Fork n l r) = nodes_of l ++ (n ∷ nodes_of r)
 
 abbrev pub pair_of : Cells → ℕ → ℕ × ℕ
 pair_of c n = (c n Key, c n Value)
