@@ -1,0 +1,5 @@
+pub mod Lawful
+pub mod Planned
+pub mod Runs
+pub mod Traces
+pub mod Walks

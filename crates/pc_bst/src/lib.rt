@@ -1,0 +1,13 @@
+//! Plans of the internal search tree, and plain cells on which one thread runs them.
+//!
+//! A plan is a machine that walks a tree: told something, it asks something, and in the end it asks
+//! for an exchange or answers. What a plan promises speaks of what it was told alone, so the same
+//! plan serves cells that stand still and cells that others change.
+#![tactic(auto)]
+
+mod change;
+mod plan;
+mod walk;
+
+pub use change::{Add, Change, Fresh, To};
+pub use plan::{Ask, Plan, Told};
