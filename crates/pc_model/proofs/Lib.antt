@@ -1,1 +1,2 @@
 pub mod SortedLists
+pub mod MapLawProofs

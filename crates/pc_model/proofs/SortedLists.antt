@@ -21,8 +21,11 @@ put-found k v w rest = cond-false (nat_lt k k) _ _ (le-ltb k k (omega arith)) �
 pub put-skip : (k v : ℕ) (p : ℕ × ℕ) (ps : Pairs) → p.0 < k → put k v (p ∷ ps) ≡ p ∷ put k v ps
 put-skip k v p ps less = cond-false (nat_lt k p.0) _ _ (le-ltb k p.0 (omega arith)) ∙ cond-false (k == p.0) _ _ (ne_eqb k p.0 (omega arith))
 
+pub without-same : (k : ℕ) (p : ℕ × ℕ) (ps : Pairs) → k ≡ p.0 → without k (p ∷ ps) ≡ ps
+without-same k p ps same = cond-true (k == p.0) _ _ (eq-eqb k p.0 same)
+
 pub without-found : (k v : ℕ) (rest : Pairs) → without k ((k, v) ∷ rest) ≡ rest
-without-found k v rest = cond-true (k == k) _ _ (eq-eqb k k refl)
+without-found k v rest = without-same k (k, v) rest refl
 
 pub without-skip : (k : ℕ) (p : ℕ × ℕ) (ps : Pairs) → (k ≡ p.0 → ⊥) → without k (p ∷ ps) ≡ p ∷ without k ps
 without-skip k p ps differs = cond-false (k == p.0) _ _ (ne_eqb k p.0 differs)

@@ -1,3 +1,4 @@
 pub mod Map
 pub mod Replay
 pub mod History
+pub mod MapLaws

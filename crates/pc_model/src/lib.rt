@@ -5,6 +5,8 @@
 
 mod call;
 mod cell;
+mod laws;
 
 pub use call::{Call, Entry, Memory, Reply};
 pub use cell::{Counter, Field};
+pub use laws::{ceil_and_floor_are_nearest, sorted_map_is_finite_map};
