@@ -1,2 +1,5 @@
 pub mod SortedLists
 pub mod MapLawProofs
+pub mod Replaying
+pub mod Histories
+pub mod Worked

@@ -1,6 +1,6 @@
 -- The sorted list of pairs is std's finite map, and its ceil and floor are the nearest keys.
-use Rattle.std.proofs.Common.{◌≡◌, ℕ, ◌+◌, ◌<◌, ◌≤◌, ◌==◌, nat_lt, nat_le, cond, Bool, true, false, [], ◌∷◌, Option, Some, None, MatchOption, refl, ap, sym, subst, inl, inr, ◌∙◌, arith}
-use Rattle.std.proofs.lemmas.Bool.{cond-true, cond-false, eq-eqb, ne_eqb, ltb-true, ltb-false, leb-true, leb-false, eqb-true, eqb-false, cond_both, cases_eq}
+use Rattle.std.proofs.Common.{◌≡◌, ℕ, ◌+◌, ◌<◌, ◌≤◌, ◌==◌, nat_le, cond, [], ◌∷◌, Option, Some, None, MatchOption, refl, ap, sym, subst, inl, inr, ◌∙◌, arith}
+use Rattle.std.proofs.lemmas.Bool.{leb-true, leb-false, cond_both, cases_eq}
 use Rattle.std.proofs.lemmas.Bool.Decides.{nat_tests}
 use Rattle.std.specs.Ordering.{nat_cmp, eq_by_cmp}
 use Rattle.std.specs.FinMap.{get, insert, remove, find, get-from_entries, get-insert, get-remove, same_map, nat_cmp-IsAntisymmetric}
@@ -45,11 +45,11 @@ lookup k ps = sym (get-from_entries nat_cmp_total ps k ∙ find_is_value_at k ps
 
 pub insertion : (k v : ℕ) (ps : Pairs) → map_of (put k v ps) ≡ insert (map_of ps) k v
 insertion k v ps = same_map nat_cmp_total nat_cmp-IsAntisymmetric (map_of (put k v ps)) (insert (map_of ps) k v)
-  (λ q. sym (lookup q (put k v ps)) ∙ value_at-put q k v ps ∙ (λ i. cond (sym (same_test q k) i) (Some v) (lookup q ps i)) ∙ sym (get-insert nat_cmp_total (map_of ps) k v q))
+    (λ q. sym (lookup q (put k v ps)) ∙ value_at-put q k v ps ∙ (λ i. cond (sym (same_test q k) i) (Some v) (lookup q ps i)) ∙ sym (get-insert nat_cmp_total (map_of ps) k v q))
 
 pub removal : (k : ℕ) (ps : Pairs) → IsRising ps → map_of (without k ps) ≡ remove (map_of ps) k
 removal k ps rising = same_map nat_cmp_total nat_cmp-IsAntisymmetric (map_of (without k ps)) (remove (map_of ps) k)
-  (λ q. sym (lookup q (without k ps)) ∙ value_at-without q k ps rising ∙ (λ i. cond (sym (same_test q k) i) None (lookup q ps i)) ∙ sym (get-remove nat_cmp_total (map_of ps) k q))
+    (λ q. sym (lookup q (without k ps)) ∙ value_at-without q k ps rising ∙ (λ i. cond (sym (same_test q k) i) None (lookup q ps i)) ∙ sym (get-remove nat_cmp_total (map_of ps) k q))
 
 pub is_finite_map : IsFiniteMap
 is_finite_map = record { lookup = lookup; insertion = insertion; removal = removal; insertion_rises = put_rises; removal_rises = without_rises }
@@ -83,10 +83,10 @@ ceil_is_nearest low k (p ∷ ps) rises =
     cond_both (nat_le k p.0) (Some p) (ceil_of k ps) (λ o. MatchOption o ((q : ℕ) → k ≤ q → value_at q (p ∷ ps) ≡ None) (IsLeastFrom k (p ∷ ps)))
     (λ test. least_head k p ps (leb-true k p.0 test) (rises_above p.0 (p.0 + 1) ps (omega arith) rises.1))
     (λ test. let less : p.0 < k = leb-false k p.0 test in
-        match_weaker (ceil_of k ps) _ _ (IsLeastFrom k ps) (IsLeastFrom k (p ∷ ps))
-        (λ none q from. value_at-skip q p ps (λ same. omega arith) ∙ none q from)
-        (least_tail k p ps less)
-        (ceil_is_nearest (p.0 + 1) k ps rises.1))
+    match_weaker (ceil_of k ps) _ _ (IsLeastFrom k ps) (IsLeastFrom k (p ∷ ps))
+    (λ none q from. value_at-skip q p ps (λ same. omega arith) ∙ none q from)
+    (least_tail k p ps less)
+    (ceil_is_nearest (p.0 + 1) k ps rises.1))
 
 match_later : (p : ℕ × ℕ) (o : Option (ℕ × ℕ)) (P P' : Type 0) (Q Q' : ℕ × ℕ → Type 0) → (P → Q' p) → ((x : ℕ × ℕ) → Q x → Q' x) → MatchOption o P Q → MatchOption (later p o) P' Q'
 match_later p None P P' Q Q' none some h = none h
@@ -114,11 +114,11 @@ floor_is_nearest low k (p ∷ ps) rises =
     let above : AreAbove p.0 ps = rises_above p.0 (p.0 + 1) ps (omega arith) rises.1 in
     cond_both (nat_le p.0 k) (later p (floor_of k ps)) None (λ o. MatchOption o ((q : ℕ) → q ≤ k → value_at q (p ∷ ps) ≡ None) (IsGreatestTo k (p ∷ ps)))
     (λ test. match_later p (floor_of k ps) _ _ (IsGreatestTo k ps) (IsGreatestTo k (p ∷ ps))
-        (greatest_head k p ps (leb-true p.0 k test))
-        (greatest_tail k p ps above)
-        (floor_is_nearest (p.0 + 1) k ps rises.1))
+    (greatest_head k p ps (leb-true p.0 k test))
+    (greatest_tail k p ps above)
+    (floor_is_nearest (p.0 + 1) k ps rises.1))
     (λ test. let less : k < p.0 = leb-false p.0 k test in
-        λ q to. value_at-skip q p ps (λ same. omega arith) ∙ value_at-above q ps (above_weaker q p.0 ps (omega arith) above))
+    λ q to. value_at-skip q p ps (λ same. omega arith) ∙ value_at-above q ps (above_weaker q p.0 ps (omega arith) above))
 
 pub finds_nearest : FindsNearest
 finds_nearest = record {

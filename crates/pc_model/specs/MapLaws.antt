@@ -1,5 +1,5 @@
 -- What the sorted map is: std's finite map, and for ceil and floor the nearest key.
-use Rattle.std.specs.Prelude.{◌≡◌, ℕ, ◌<◌, ◌≤◌, List, [], ◌∷◌, Option, Some, None, MatchOption}
+use Rattle.std.specs.Prelude.{◌≡◌, ℕ, ◌<◌, ◌≤◌, Some, None, MatchOption}
 use Rattle.std.specs.Ordering.{nat_cmp}
 use Rattle.std.specs.FinMap.{FinMap, from_entries, get, insert, remove}
 use Rattle.pc_model.specs.Map.{Pairs, IsRising, value_at, put, without, ceil_of, floor_of}
