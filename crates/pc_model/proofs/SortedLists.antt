@@ -182,7 +182,7 @@ later_found : (p : ℕ × ℕ) (o other : Option (ℕ × ℕ)) → later p (foun
 later_found p None other = refl
 later_found p (Some q) other = refl
 
--- the greatest key down from k is in the middle, or else it is the last one before
+-- the greatest key down from k is in the back part, or else it is the last one of the front part
 pub floor_of-right : (k : ℕ) (before ps : Pairs) → AreBelow k before → floor_of k (before ++ ps) ≡ found_or (floor_of k ps) (last_of before)
 floor_of-right k [] ps below = found_or-None (floor_of k ps)
 floor_of-right k (p ∷ before) ps below =
@@ -190,6 +190,7 @@ floor_of-right k (p ∷ before) ps below =
     ∙ ap (later p) (floor_of-right k before ps below.1)
     ∙ later_found p (floor_of k ps) (last_of before)
 
+-- the greatest key down from k is in the middle, or else it is the last one before
 pub floor_of-between : (k : ℕ) (before ps after : Pairs) → AreBelow k before → AreAbove k after → floor_of k (before ++ (ps ++ after)) ≡ found_or (floor_of k ps) (last_of before)
 floor_of-between k before ps after below above =
     floor_of-right k before (ps ++ after) below ∙ ap (λ o. found_or o (last_of before)) (floor_of-left k ps after above)
