@@ -21,8 +21,11 @@ put-found k v w rest = cond-false (nat_lt k k) _ _ (le-ltb k k (omega arith)) �
 pub put-skip : (k v : ℕ) (p : ℕ × ℕ) (ps : Pairs) → p.0 < k → put k v (p ∷ ps) ≡ p ∷ put k v ps
 put-skip k v p ps less = cond-false (nat_lt k p.0) _ _ (le-ltb k p.0 (omega arith)) ∙ cond-false (k == p.0) _ _ (ne_eqb k p.0 (omega arith))
 
+pub without-same : (k : ℕ) (p : ℕ × ℕ) (ps : Pairs) → k ≡ p.0 → without k (p ∷ ps) ≡ ps
+without-same k p ps same = cond-true (k == p.0) _ _ (eq-eqb k p.0 same)
+
 pub without-found : (k v : ℕ) (rest : Pairs) → without k ((k, v) ∷ rest) ≡ rest
-without-found k v rest = cond-true (k == k) _ _ (eq-eqb k k refl)
+without-found k v rest = without-same k (k, v) rest refl
 
 pub without-skip : (k : ℕ) (p : ℕ × ℕ) (ps : Pairs) → (k ≡ p.0 → ⊥) → without k (p ∷ ps) ≡ p ∷ without k ps
 without-skip k p ps differs = cond-false (k == p.0) _ _ (ne_eqb k p.0 differs)
@@ -63,14 +66,16 @@ pub value_at-above : (k : ℕ) (ps : Pairs) → AreAbove k ps → value_at k ps 
 value_at-above k [] above = refl
 value_at-above k (p ∷ ps) above = value_at-skip k p ps (λ same. omega (arith, above.0)) ∙ value_at-above k ps above.1
 
-value_at-before : (k : ℕ) (ps after : Pairs) → AreAbove k after → value_at k (ps ++ after) ≡ value_at k ps
-value_at-before k [] after above = value_at-above k after above
-value_at-before k (p ∷ ps) after above = ap (λ o. cond (k == p.0) (Some p.1) o) (value_at-before k ps after above)
+pub value_at-left : (k : ℕ) (ps after : Pairs) → AreAbove k after → value_at k (ps ++ after) ≡ value_at k ps
+value_at-left k [] after above = value_at-above k after above
+value_at-left k (p ∷ ps) after above = ap (λ o. cond (k == p.0) (Some p.1) o) (value_at-left k ps after above)
+
+pub value_at-right : (k : ℕ) (before ps : Pairs) → AreBelow k before → value_at k (before ++ ps) ≡ value_at k ps
+value_at-right k [] ps below = refl
+value_at-right k (p ∷ before) ps below = value_at-skip k p (before ++ ps) (λ same. omega (arith, below.0)) ∙ value_at-right k before ps below.1
 
 pub value_at-between : (k : ℕ) (before ps after : Pairs) → AreBelow k before → AreAbove k after → value_at k (before ++ (ps ++ after)) ≡ value_at k ps
-value_at-between k [] ps after below above = value_at-before k ps after above
-value_at-between k (p ∷ before) ps after below above =
-    value_at-skip k p (before ++ (ps ++ after)) (λ same. omega (arith, below.0)) ∙ value_at-between k before ps after below.1 above
+value_at-between k before ps after below above = value_at-right k before (ps ++ after) below ∙ value_at-left k ps after above
 
 put-above : (k v : ℕ) (after : Pairs) → AreAbove k after → put k v after ≡ (k, v) ∷ after
 put-above k v [] above = refl
@@ -81,16 +86,19 @@ choice_before true second a b c whole after same = refl
 choice_before false true a b c whole after same = refl
 choice_before false false a b c whole after same = same
 
-put-before : (k v : ℕ) (ps after : Pairs) → AreAbove k after → put k v (ps ++ after) ≡ put k v ps ++ after
-put-before k v [] after above = put-above k v after above
-put-before k v (p ∷ ps) after above =
+pub put-left : (k v : ℕ) (ps after : Pairs) → AreAbove k after → put k v (ps ++ after) ≡ put k v ps ++ after
+put-left k v [] after above = put-above k v after above
+put-left k v (p ∷ ps) after above =
     choice_before (nat_lt k p.0) (k == p.0) ((k, v) ∷ p ∷ ps) ((k, v) ∷ ps) (p ∷ put k v ps) (p ∷ put k v (ps ++ after)) after
-    (ap (λ (qs : Pairs). p ∷ qs) (put-before k v ps after above))
+    (ap (λ (qs : Pairs). p ∷ qs) (put-left k v ps after above))
+
+pub put-right : (k v : ℕ) (before ps : Pairs) → AreBelow k before → put k v (before ++ ps) ≡ before ++ put k v ps
+put-right k v [] ps below = refl
+put-right k v (p ∷ before) ps below = put-skip k v p (before ++ ps) below.0 ∙ ap (λ (qs : Pairs). p ∷ qs) (put-right k v before ps below.1)
 
 pub put-between : (k v : ℕ) (before ps after : Pairs) → AreBelow k before → AreAbove k after → put k v (before ++ (ps ++ after)) ≡ before ++ (put k v ps ++ after)
-put-between k v [] ps after below above = put-before k v ps after above
-put-between k v (p ∷ before) ps after below above =
-    put-skip k v p (before ++ (ps ++ after)) below.0 ∙ ap (λ (qs : Pairs). p ∷ qs) (put-between k v before ps after below.1 above)
+put-between k v before ps after below above =
+    put-right k v before (ps ++ after) below ∙ ap (λ (qs : Pairs). before ++ qs) (put-left k v ps after above)
 
 without-below : (k : ℕ) (ps : Pairs) → AreBelow k ps → without k ps ≡ ps
 without-below k [] below = refl
@@ -100,17 +108,20 @@ without-above : (k : ℕ) (ps : Pairs) → AreAbove k ps → without k ps ≡ ps
 without-above k [] above = refl
 without-above k (p ∷ ps) above = without-skip k p ps (λ same. omega (arith, above.0)) ∙ ap (λ (qs : Pairs). p ∷ qs) (without-above k ps above.1)
 
-without-before : (k : ℕ) (ps after : Pairs) → AreAbove k after → without k (ps ++ after) ≡ without k ps ++ after
-without-before k [] after above = without-above k after above
-without-before k (p ∷ ps) after above =
+pub without-left : (k : ℕ) (ps after : Pairs) → AreAbove k after → without k (ps ++ after) ≡ without k ps ++ after
+without-left k [] after above = without-above k after above
+without-left k (p ∷ ps) after above =
     choice_before false (k == p.0) [] ps (p ∷ without k ps) (p ∷ without k (ps ++ after)) after
-    (ap (λ (qs : Pairs). p ∷ qs) (without-before k ps after above))
+    (ap (λ (qs : Pairs). p ∷ qs) (without-left k ps after above))
+
+pub without-right : (k : ℕ) (before ps : Pairs) → AreBelow k before → without k (before ++ ps) ≡ before ++ without k ps
+without-right k [] ps below = refl
+without-right k (p ∷ before) ps below =
+    without-skip k p (before ++ ps) (λ same. omega (arith, below.0)) ∙ ap (λ (qs : Pairs). p ∷ qs) (without-right k before ps below.1)
 
 pub without-between : (k : ℕ) (before ps after : Pairs) → AreBelow k before → AreAbove k after → without k (before ++ (ps ++ after)) ≡ before ++ (without k ps ++ after)
-without-between k [] ps after below above = without-before k ps after above
-without-between k (p ∷ before) ps after below above =
-    without-skip k p (before ++ (ps ++ after)) (λ same. omega (arith, below.0))
-    ∙ ap (λ (qs : Pairs). p ∷ qs) (without-between k before ps after below.1 above)
+without-between k before ps after below above =
+    without-right k before (ps ++ after) below ∙ ap (λ (qs : Pairs). before ++ qs) (without-left k ps after above)
 
 found_or-None : (o : Option (ℕ × ℕ)) → o ≡ found_or o None
 found_or-None None = refl
@@ -139,6 +150,11 @@ pub ceil_of-above : (k : ℕ) (ps : Pairs) → AreAbove k ps → ceil_of k ps �
 ceil_of-above k [] above = refl
 ceil_of-above k (p ∷ ps) above = ceil_of-stop k p ps (omega (arith, above.0))
 
+-- the least key from k up is in the middle, or else it is the first one after
+pub ceil_of-between_both : (k : ℕ) (before ps after : Pairs) → AreBelow k before → AreAbove k after → ceil_of k (before ++ (ps ++ after)) ≡ found_or (ceil_of k ps) (first_of after)
+ceil_of-between_both k before ps after below above =
+    ceil_of-between k before (ps ++ after) below ∙ ceil_of-append k ps after ∙ ap (found_or (ceil_of k ps)) (ceil_of-above k after above)
+
 pub ceil_of-below : (k : ℕ) (ps : Pairs) → AreBelow k ps → ceil_of k ps ≡ None
 ceil_of-below k [] below = refl
 ceil_of-below k (p ∷ ps) below = ceil_of-skip k p ps below.0 ∙ ceil_of-below k ps below.1
@@ -158,21 +174,32 @@ floor_of-below k [] below = refl
 floor_of-below k (p ∷ ps) below = floor_of-take k p ps (omega (arith, below.0)) ∙ ap (later p) (floor_of-below k ps below.1)
 
 -- what lies above the key changes no floor
-pub floor_of-before : (k : ℕ) (ps after : Pairs) → AreAbove k after → floor_of k (ps ++ after) ≡ floor_of k ps
-floor_of-before k [] after above = floor_of-above k after above
-floor_of-before k (p ∷ ps) after above = ap (λ o. cond (nat_le p.0 k) (later p o) None) (floor_of-before k ps after above)
+pub floor_of-left : (k : ℕ) (ps after : Pairs) → AreAbove k after → floor_of k (ps ++ after) ≡ floor_of k ps
+floor_of-left k [] after above = floor_of-above k after above
+floor_of-left k (p ∷ ps) after above = ap (λ o. cond (nat_le p.0 k) (later p o) None) (floor_of-left k ps after above)
 
 later_found : (p : ℕ × ℕ) (o other : Option (ℕ × ℕ)) → later p (found_or o other) ≡ found_or o (later p other)
 later_found p None other = refl
 later_found p (Some q) other = refl
 
+-- the greatest key down from k is in the back part, or else it is the last one of the front part
+pub floor_of-right : (k : ℕ) (before ps : Pairs) → AreBelow k before → floor_of k (before ++ ps) ≡ found_or (floor_of k ps) (last_of before)
+floor_of-right k [] ps below = found_or-None (floor_of k ps)
+floor_of-right k (p ∷ before) ps below =
+    floor_of-take k p (before ++ ps) (omega (arith, below.0))
+    ∙ ap (later p) (floor_of-right k before ps below.1)
+    ∙ later_found p (floor_of k ps) (last_of before)
+
 -- the greatest key down from k is in the middle, or else it is the last one before
 pub floor_of-between : (k : ℕ) (before ps after : Pairs) → AreBelow k before → AreAbove k after → floor_of k (before ++ (ps ++ after)) ≡ found_or (floor_of k ps) (last_of before)
-floor_of-between k [] ps after below above = floor_of-before k ps after above ∙ found_or-None (floor_of k ps)
-floor_of-between k (p ∷ before) ps after below above =
-    floor_of-take k p (before ++ (ps ++ after)) (omega (arith, below.0))
-    ∙ ap (later p) (floor_of-between k before ps after below.1 above)
-    ∙ later_found p (floor_of k ps) (last_of before)
+floor_of-between k before ps after below above =
+    floor_of-right k before (ps ++ after) below ∙ ap (λ o. found_or o (last_of before)) (floor_of-left k ps after above)
+
+-- The ends
+
+pub last_of-push : (ps : Pairs) (p : ℕ × ℕ) → last_of (ps ++ (p ∷ [])) ≡ Some p
+last_of-push [] p = refl
+last_of-push (q ∷ ps) p = ap (later q) (last_of-push ps p)
 
 -- Rising keys
 

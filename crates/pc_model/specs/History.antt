@@ -16,6 +16,11 @@ abbrev pub IsNumberedFrom : ℕ → List Entry → Type 0
 IsNumberedFrom n [] = Unit {0}
 IsNumberedFrom n (e ∷ es) = (e.number ≡ n) × IsNumberedFrom (n + 1) es
 
+-- every entry is of this client
+abbrev pub AllOfPass : ℕ → List Entry → Type 0
+AllOfPass client [] = Unit {0}
+AllOfPass client (e ∷ es) = (e.pass ≡ client) × AllOfPass client es
+
 -- every entry is of one of the clients 1 to a number
 abbrev pub AreOfClients : ℕ → List Entry → Type 0
 AreOfClients clients [] = Unit {0}

@@ -1,7 +1,9 @@
 pub mod Cells
 pub mod Counts
+pub mod EntryLaws
 pub mod Exchanges
 pub mod History
 pub mod Map
+pub mod MapLaws
 pub mod Replay
 pub mod Trees

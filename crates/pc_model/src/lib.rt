@@ -5,6 +5,13 @@
 
 mod call;
 mod cell;
+mod laws;
+#[cfg(test)]
+mod tests;
 
 pub use call::{Call, Entry, Memory, Reply};
 pub use cell::{Counter, Field};
+pub use laws::{
+    ceil_and_floor_are_nearest, history_of_one_client_is_its_calls, replay_goes_in_parts,
+    sorted_map_is_finite_map,
+};

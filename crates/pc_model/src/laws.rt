@@ -1,0 +1,26 @@
+//! The laws of the definitions, each on a function with no code.
+ghost use Rattle.pc_model.specs.EntryLaws.{GoesInParts, IsItsCallsInOrder};
+ghost use Rattle.pc_model.specs.MapLaws.{FindsNearest, IsFiniteMap};
+
+/// The sorted list of pairs, with its calls, is std's finite map with the calls of the same names.
+pub fn sorted_map_is_finite_map()
+    ensures { IsFiniteMap }
+{}
+
+/// Ceil gives the pair with the least key from the key up, floor the pair with the greatest key
+/// down from it, and each answers nothing only where no key is there.
+pub fn ceil_and_floor_are_nearest()
+    ensures { FindsNearest }
+{}
+
+/// A list of entries is right exactly where its front is right, and its back is right from the map
+/// that the front leaves.
+pub fn replay_goes_in_parts()
+    ensures { GoesInParts }
+{}
+
+/// A history of one client is a list of that client's entries, numbered from 1, with its calls in
+/// their order.
+pub fn history_of_one_client_is_its_calls()
+    ensures { IsItsCallsInOrder }
+{}
