@@ -139,3 +139,7 @@ pub record Runs {P C : Type 0} (start : C → P) (moves : P → Told → P × As
 -- of a version only whether it is even matters to soundness
 pub record KeepsParity (sound : ℕ → Cells → Pairs → Type 0) : Type 0 where
   pub kept : (slots : ℕ) (c c' : Cells) (ps : Pairs) → SameButVersions slots c c' → sound slots c ps → sound slots c' ps
+
+-- where every slot is in use, each has its pair
+pub record CountsSlots (sound : ℕ → Cells → Pairs → Type 0) : Type 0 where
+  pub full : (slots : ℕ) (c : Cells) (ps : Pairs) → sound slots c ps → ((n : ℕ) → IsSlot slots n → IsEven (c n VersionField)) → length ps ≡ slots

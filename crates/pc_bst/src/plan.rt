@@ -5,7 +5,7 @@ ghost use Rattle.pc_model.specs.Map.{Pairs};
 ghost use Rattle.pc_model.specs.Cells.{Cells};
 ghost use Rattle.pc_bst.specs.declared.plan.Ask.{Ask as Asked};
 ghost use Rattle.pc_bst.specs.declared.plan.Told.{Told as Heard};
-ghost use Rattle.pc_bst.specs.Runs.{Runs, KeepsParity};
+ghost use Rattle.pc_bst.specs.Runs.{Runs, KeepsParity, CountsSlots};
 ghost use Rattle.pc_bst.specs.Lawful.{IsLawful};
 
 use crate::change::Change;
@@ -73,6 +73,9 @@ pub trait Plan: Drop {
 
     // Of a version only its parity matters.
     ghost parity: { KeepsParity sound };
+
+    // Cells whose slots are all in use have as many pairs as slots.
+    ghost full: { CountsSlots sound };
 
     // Whatever it is told, the plan asks for nothing but what it may.
     ghost lawful: { IsLawful start moves can_call };
