@@ -1,8 +1,9 @@
 pub mod Counting
 pub mod Framing
+pub mod Histories
 pub mod Holes
-pub mod SortedLists
 pub mod MapLawProofs
 pub mod Replaying
-pub mod Histories
+pub mod SortedLists
+pub mod Soundness
 pub mod Worked
