@@ -1,5 +1,9 @@
+pub mod Courses
 pub mod Lawful
 pub mod Planned
 pub mod Runs
 pub mod Traces
 pub mod Walks
+pub mod PlainTrees
+pub mod PlainTreeLaws
+pub mod WalkCourses
