@@ -1,9 +1,11 @@
 pub mod Counting
 pub mod Framing
 pub mod Histories
+pub mod HolePairs
 pub mod Holes
 pub mod MapLawProofs
 pub mod Replaying
 pub mod SortedLists
 pub mod Soundness
 pub mod Worked
+pub mod Writes
