@@ -1,6 +1,6 @@
 -- The law of a plan whatever it is told: it begins with a visit, visits the sentinel and nodes that it
 -- was told of, reads what it visited, at most eight times a visit, and changes what it was told.
-use Rattle.std.specs.Prelude.{◌≡◌, ◌≢◌, ℕ, ◌+◌, ◌<◌, ◌≤◌, ◌⊎◌, List, [], ◌∷◌, Option, Some, None, IsSome}
+use Rattle.std.specs.Prelude.{◌≡◌, ◌≢◌, ℕ, ◌+◌, ◌^◌, ◌<◌, ◌≤◌, ◌⊎◌, List, [], ◌∷◌, Option, Some, None, IsSome}
 use Rattle.pc_model.specs.declared.cell.Field.{Field}
 use Rattle.pc_model.specs.declared.cell.Field.TheVariants.{Version as VersionField, Left, Right, Parent}
 use Rattle.pc_bst.specs.declared.change.To.{To}
@@ -10,7 +10,7 @@ use Rattle.pc_bst.specs.declared.change.Fresh.{Fresh}
 use Rattle.pc_bst.specs.declared.plan.Ask.{Ask}
 use Rattle.pc_bst.specs.declared.plan.Ask.TheVariants.{Visit, Read, Change, Answer}
 use Rattle.pc_bst.specs.declared.plan.Told.{Told}
-use Rattle.pc_bst.specs.declared.plan.Told.TheVariants.{Begin, Version}
+use Rattle.pc_bst.specs.declared.plan.Told.TheVariants.{Begin, Version, Number as NumberTold}
 use Rattle.pc_bst.specs.Planned.{Planned}
 use Rattle.pc_bst.specs.Traces.{Event, visited, found, version_seen, number_seen, reads_since_visit}
 use Rattle.pc_bst.specs.Runs.{reached, past_of}
@@ -78,6 +78,16 @@ IsLawfulAsk past (Read n f) = IsSome (version_seen n past) × (reads_since_visit
 IsLawfulAsk past (Change p) = IsLawfulChange past p
 IsLawfulAsk past (Answer r) = Unit {0}
 
+-- a number that a word can hold
+abbrev pub IsWord : Told → Type 0
+IsWord Begin = Unit {0}
+IsWord (Version v) = v < 2 ^ 62
+IsWord (NumberTold x) = x < 2 ^ 62
+
+abbrev pub AreWords : List Told → Type 0
+AreWords [] = Unit {0}
+AreWords (t ∷ ts) = IsWord t × AreWords ts
+
 pub record IsLawful {P C : Type 0} (start : C → P) (moves : P → Told → P × Ask) (can_call : C → Type 0) : Type 0 where
   pub first : (call : C) → can_call call → (moves (start call) Begin).1 ≡ Visit 1
-  pub asks : (call : C) (ts : List Told) → can_call call → IsLawfulAsk (past_of start moves call ts) (reached start moves call ts).1
+  pub asks : (call : C) (ts : List Told) → can_call call → AreWords ts → IsLawfulAsk (past_of start moves call ts) (reached start moves call ts).1

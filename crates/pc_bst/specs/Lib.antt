@@ -1,9 +1,12 @@
 pub mod Courses
+pub mod GetLaws
+pub mod Gets
 pub mod Lawful
+pub mod Lawfulness
+pub mod PlainTreeLaws
+pub mod PlainTrees
 pub mod Planned
 pub mod Runs
 pub mod Traces
-pub mod Walks
-pub mod PlainTrees
-pub mod PlainTreeLaws
 pub mod WalkCourses
+pub mod Walks

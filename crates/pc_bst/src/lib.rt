@@ -6,8 +6,10 @@
 #![tactic(auto)]
 
 mod change;
+mod get;
 mod plan;
 mod walk;
 
 pub use change::{Add, Change, Fresh, To};
+pub use get::BstGet;
 pub use plan::{Ask, Plan, Told};
