@@ -51,7 +51,7 @@ module _ (sound : ℕ → Cells → Pairs → Type 0) (slots : ℕ) (c : Cells) 
     parity = e.parity;
     marked = e.marked;
     words = e.words;
-    fresh = e.fresh
+    fresh = e.fresh;
   }
 
   module _ {P : Type 0} (moves : P → Told → P × Ask) where

@@ -46,8 +46,11 @@ fresh_at slot version (Some f) = Some (record { node = slot; fields = fresh_fiel
 -- the exchange that a plan asks for after what it learned, where the fresh node takes a slot at a version
 abbrev pub exchange_of : List Event → Planned → ℕ → ℕ → Exchange
 exchange_of past p slot version = record {
-    visits = visits_in past; reads = reads_in past;
-    changes = map (change_at slot) p.adds; fresh = fresh_at slot version p.fresh }
+  visits = visits_in past;
+  reads = reads_in past;
+  changes = map (change_at slot) p.adds;
+  fresh = fresh_at slot version p.fresh;
+}
 
 -- a slot that the exchange may take: one out of use, or any where it has no fresh node
 abbrev pub Takes : ℕ → Cells → Planned → ℕ → Type 0

@@ -116,18 +116,18 @@ module _ (sound : ℕ → Cells → Pairs → Type 0) (kind : Kind) (slots : ℕ
           let unseen_l : IsUnseen l past3 = λ m i. version_seen-else m n (c n VersionField) past1 (λ e. a.not_left (subst (λ (x : ℕ). IsIn x l) (sym e) i)) ∙ unseen m (inr (inl i)) in
           let unseen_r : IsUnseen r past3 = λ m i. version_seen-else m n (c n VersionField) past1 (λ e. a.not_right (subst (λ (x : ℕ). IsIn x r) (sym e) i)) ∙ unseen m (inr (inr i)) in
           let go3 : Goes turns past3 (moves (at_walk w2) (Number (c n KeyField))) =
-              ⊎_elim (λ e. let next : moves (at_walk w2) (Number (c n KeyField)) ≡ walked w2 Found = moved w2 w2 (Number (c n KeyField)) Found (comparing-found k n (c n VersionField) (c n KeyField) AKey e) in
-                  let go : Goes more past3 (walked w2 Found) = at_found past3 above side n l r h (sym e) unseen_l unseen_r in
-                  let all : Goes turns past3 (walked w2 Found) = more_turns sound slots c ps call moves more turns (walked w2 Found).1 past3 (walked w2 Found).0 (omega arith) go in
-                  subst (Goes turns past3) (sym next) all)
-              (λ apart. ⊎_elim
-                (λ lt. let w3 : Walk = walk_at k n (c n VersionField) (ALink Left) in
-                    let next : moves (at_walk w2) (Number (c n KeyField)) ≡ (at_walk w3, AskRead n Left) = moved w2 w3 (Number (c n KeyField)) (Read n Left) (comparing-less k n (c n VersionField) (c n KeyField) AKey lt) ∙ goes_read w3 n Left in
-                    subst (Goes turns past3) (sym next) (walk_on l n Left turns past3 (left_hole kind slots c ps tree.tree k above side n l r tree.rising lt h) (inl refl) unseen_l (omega arith)))
-                (λ gt. let w3 : Walk = walk_at k n (c n VersionField) (ALink Right) in
-                    let next : moves (at_walk w2) (Number (c n KeyField)) ≡ (at_walk w3, AskRead n Right) = moved w2 w3 (Number (c n KeyField)) (Read n Right) (comparing-more k n (c n VersionField) (c n KeyField) AKey gt) ∙ goes_read w3 n Right in
-                    subst (Goes turns past3) (sym next) (walk_on r n Right turns past3 (right_hole kind slots c ps tree.tree k above side n l r tree.rising gt h) (inr refl) unseen_r (omega arith)))
-                apart) (cases_order k (c n KeyField)) in
+          ⊎_elim (λ e. let next : moves (at_walk w2) (Number (c n KeyField)) ≡ walked w2 Found = moved w2 w2 (Number (c n KeyField)) Found (comparing-found k n (c n VersionField) (c n KeyField) AKey e) in
+          let go : Goes more past3 (walked w2 Found) = at_found past3 above side n l r h (sym e) unseen_l unseen_r in
+          let all : Goes turns past3 (walked w2 Found) = more_turns sound slots c ps call moves more turns (walked w2 Found).1 past3 (walked w2 Found).0 (omega arith) go in
+          subst (Goes turns past3) (sym next) all)
+          (λ apart. ⊎_elim
+          (λ lt. let w3 : Walk = walk_at k n (c n VersionField) (ALink Left) in
+          let next : moves (at_walk w2) (Number (c n KeyField)) ≡ (at_walk w3, AskRead n Left) = moved w2 w3 (Number (c n KeyField)) (Read n Left) (comparing-less k n (c n VersionField) (c n KeyField) AKey lt) ∙ goes_read w3 n Left in
+          subst (Goes turns past3) (sym next) (walk_on l n Left turns past3 (left_hole kind slots c ps tree.tree k above side n l r tree.rising lt h) (inl refl) unseen_l (omega arith)))
+          (λ gt. let w3 : Walk = walk_at k n (c n VersionField) (ALink Right) in
+          let next : moves (at_walk w2) (Number (c n KeyField)) ≡ (at_walk w3, AskRead n Right) = moved w2 w3 (Number (c n KeyField)) (Read n Right) (comparing-more k n (c n VersionField) (c n KeyField) AKey gt) ∙ goes_read w3 n Right in
+          subst (Goes turns past3) (sym next) (walk_on r n Right turns past3 (right_hole kind slots c ps tree.tree k above side n l r tree.rising gt h) (inr refl) unseen_r (omega arith)))
+          apart) (cases_order k (c n KeyField)) in
           let go2 : Goes (suc turns) past2 (moves (at_walk w1) (Version (c n VersionField))) = subst (Goes (suc turns) past2) (sym step2) ((omega arith, omega arith), go3) in
           let go1 : Goes (suc (suc turns)) past1 (moves (at_walk w0) (Number (c above side))) = subst (Goes (suc (suc turns)) past1) (sym step1) (((omega arith, omega arith), node.unmarked, unseen n (inl refl)), go2) in
           (h.node, go1)

@@ -69,8 +69,11 @@ impl Model for Change {
     ghost Value = { Planned };
 
     ghost view = { λ c. record {
-        adds = take c.added c.adds; charged = take c.charges c.charged;
-        fresh = c.fresh; mark = c.mark; reply = c.reply
+      adds = take c.added c.adds;
+      charged = take c.charges c.charged;
+      fresh = c.fresh;
+      mark = c.mark;
+      reply = c.reply;
     } };
 
     ghost invariant = { λ c. (c.added ≤ 24) × (c.charges ≤ 4) };
