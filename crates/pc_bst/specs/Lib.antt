@@ -6,6 +6,9 @@ pub mod Lawfulness
 pub mod PlainTreeLaws
 pub mod PlainTrees
 pub mod Planned
+pub mod PutEnds
+pub mod PutLaws
+pub mod Puts
 pub mod Runs
 pub mod Traces
 pub mod WalkCourses

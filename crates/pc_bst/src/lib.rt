@@ -8,8 +8,10 @@
 mod change;
 mod get;
 mod plan;
+mod put;
 mod walk;
 
 pub use change::{Add, Change, Fresh, To};
 pub use get::BstGet;
 pub use plan::{Ask, Plan, Told};
+pub use put::BstPut;

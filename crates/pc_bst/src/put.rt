@@ -1,0 +1,160 @@
+//! The plan of a put: the walk, and where it finds the key, a change of the value there, else a
+//! fresh node at the link where the walk ended.
+ghost use Rattle.std.specs.Prelude.{◌≡◌};
+ghost use Rattle.pc_bst.specs.Puts.{put_walked, put_moves, raised, value_changed, leaf_added};
+
+use crate::change::{Add, Change, Fresh, To};
+use crate::plan::{Ask, Plan, Told};
+use crate::walk::{Step, Walk};
+use pc_model::{Call, Field, Reply};
+use std::marker::Model;
+
+/// Where a put is: on its walk with its value, waiting for the old value of a node that it visited
+/// at a version, or at its end.
+#[derive(Clone, Copy)]
+pub enum PutPhase {
+    Walking(Walk, u64),
+    Reading(u32, u64, u64),
+    Ended,
+}
+
+/// The plan of a put.
+#[derive(Drop)]
+pub struct BstPut {
+    phase: PutPhase,
+}
+
+impl Model for BstPut {
+    ghost use Rattle.pc_bst.specs.declared.put.PutPhase.{PutPhase};
+
+    ghost Value = { PutPhase };
+
+    ghost view = { λ p. p.phase };
+}
+
+impl Plan for BstPut {
+    ghost use Rattle.pc_bst.specs.Puts.{put_of, put_moves, IsPair, put_call};
+    ghost use Rattle.pc_bst.specs.PutLaws.{put_runs};
+    ghost use Rattle.pc_bst.specs.PlainTrees.{IsPlainTree};
+    ghost use Rattle.pc_bst.specs.PlainTreeLaws.{plain_parity, plain_full};
+
+    type Call = (u64, u64);
+
+    ghost start = { put_of };
+
+    ghost moves = { put_moves };
+
+    ghost can_call = { IsPair };
+
+    ghost call_of = { put_call };
+
+    ghost sound = { IsPlainTree };
+
+    ghost runs = { put_runs };
+
+    ghost parity = { plain_parity };
+
+    ghost full = { plain_full };
+
+
+    fn begin(call: (u64, u64)) -> BstPut {
+        BstPut {
+            phase: PutPhase::Walking(Walk::new(call.0), call.1),
+        }
+    }
+
+    fn next(&mut self, told: Told) -> Ask {
+        let (phase, ask) = next_of(self.phase, told);
+        self.phase = phase;
+        ask
+    }
+
+    fn entry(call: (u64, u64)) -> Option<Call> {
+        Some(Call::Put {
+            key: call.0,
+            value: call.1,
+        })
+    }
+}
+
+/// The version of a changed node goes up by two.
+fn raise(node: u32, version: u64) -> Add
+    ensures { result ≡ raised node version }
+{
+    Add {
+        node,
+        field: Field::Version,
+        old: version,
+        new: To::Number(version.saturating_add(2)),
+    }
+}
+
+fn change_value(node: u32, version: u64, old: u64, value: u64) -> Change
+    ensures { result ≡ value_changed node version old value }
+{
+    let mut change = Change::new(Reply::Was(old));
+    change.push(raise(node, version));
+    change.push(Add {
+        node,
+        field: Field::Value,
+        old,
+        new: To::Number(value),
+    });
+    change
+}
+
+/// Hangs a fresh node at a link of the node that the walk has come to.
+fn add_leaf(walk: Walk, side: Field, link: u64, value: u64) -> Change
+    ensures { result ≡ leaf_added walk.node walk.version side link walk.key value }
+{
+    let mut change = Change::new(Reply::New);
+    change.push(raise(walk.node, walk.version));
+    change.push(Add {
+        node: walk.node,
+        field: side,
+        old: link,
+        new: To::Fresh,
+    });
+    change.fresh = Some(Fresh {
+        key: walk.key,
+        value,
+        parent: 0,
+        height: 0,
+    });
+    change
+}
+
+/// The phase after the walk has gone on, and what the plan asks then.
+fn walked(value: u64, walk: Walk, step: Step) -> (PutPhase, Ask)
+    ensures { result ≡ put_walked value walk step }
+{
+    match step {
+        Step::Visit(node) => (PutPhase::Walking(walk, value), Ask::Visit(node)),
+        Step::Read(node, field) => (PutPhase::Walking(walk, value), Ask::Read(node, field)),
+        Step::Found => (
+            PutPhase::Reading(walk.node, walk.version, value),
+            Ask::Read(walk.node, Field::Value),
+        ),
+        Step::Missing(side, link) => (
+            PutPhase::Ended,
+            Ask::Change(add_leaf(walk, side, link, value)),
+        ),
+        Step::Astray => (PutPhase::Ended, Ask::Answer(Reply::None)),
+    }
+}
+
+fn next_of(phase: PutPhase, told: Told) -> (PutPhase, Ask)
+    ensures { result ≡ put_moves phase told }
+{
+    match (phase, told) {
+        (PutPhase::Walking(mut walk, value), told) => {
+            let step = walk.step(told);
+            walked(value, walk, step)
+        }
+        (PutPhase::Reading(node, version, value), Told::Number(old)) => (
+            PutPhase::Ended,
+            Ask::Change(change_value(node, version, old, value)),
+        ),
+        _ => (PutPhase::Ended, Ask::Answer(Reply::None)),
+    }
+}
