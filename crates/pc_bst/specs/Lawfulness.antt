@@ -37,7 +37,7 @@ node_at-some x m e = ⊎_elim
     (cases_Bool (nat_lt 4294967295 x)))
     (cases_Bool (x == 0))
 
-number_seen-here : (n : ℕ) (f : Field) (x : ℕ) (past : List Event) → number_seen n f (found n f x ∷ past) ≡ Some x
+pub number_seen-here : (n : ℕ) (f : Field) (x : ℕ) (past : List Event) → number_seen n f (found n f x ∷ past) ≡ Some x
 number_seen-here n f x past = cond-true (n == n) (if field_number f == field_number f then Some x else number_seen n f past) (number_seen n f past) (eq-eqb n n refl)
     ∙ cond-true (field_number f == field_number f) (Some x) (number_seen n f past) (eq-eqb (field_number f) (field_number f) refl)
 

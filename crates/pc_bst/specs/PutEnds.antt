@@ -62,7 +62,7 @@ module _ (slots : ℕ) (c : Cells) (ps : Pairs) (k value : ℕ) (ready : IsReady
   pub with_value-parity : (n m : ℕ) → n ≤ slots + 1 → with_value n m VersionField % 2 ≡ c m VersionField % 2
   with_value-parity n m le = ⊎_elim
       (λ e. let small : c n VersionField < 2 ^ 60 = ready.fits.versions n le in
-        subst (λ (x : ℕ). with_value n x VersionField % 2 ≡ c x VersionField % 2) (sym e) (ap (λ (x : ℕ). x % 2) (with_value-version n) ∙ two_more-parity (c n VersionField) small))
+      subst (λ (x : ℕ). with_value n x VersionField % 2 ≡ c x VersionField % 2) (sym e) (ap (λ (x : ℕ). x % 2) (with_value-version n) ∙ two_more-parity (c n VersionField) small))
       (λ ne. ap (λ (x : ℕ). x % 2) (with_value-other n m VersionField ne)) (cases_eq m n)
 
   pub value_leaves : (above : ℕ) (side : Field) (n : ℕ) (l r : Tree) → Hole plain slots c ps ready.is_sound.tree k above side (Fork n l r) → c n KeyField ≡ k → IsPlainTree slots (with_value n) (put k value ps)
@@ -82,20 +82,20 @@ module _ (slots : ℕ) (c : Cells) (ps : Pairs) (k value : ℕ) (ready : IsReady
         parent = upper Parent;
         height = upper Height;
         other = upper (other_link side);
-        unmarked = rw (upper VersionField) h.unmarked
+        unmarked = rw (upper VersionField) h.unmarked;
       } in
       let same_l : (m : ℕ) → IsIn m l → (f : Field) → c' m f ≡ c m f = λ m i f. with_value-other n m f (λ d. a.not_left (subst (λ (x : ℕ). IsIn x l) d i)) in
       let same_r : (m : ℕ) → IsIn m r → (f : Field) → c' m f ≡ c m f = λ m i f. with_value-other n m f (λ d. a.not_right (subst (λ (x : ℕ). IsIn x r) d i)) in
       let even : IsEven (c' n VersionField) = parity n ∙ node.unmarked in
       let spelled : Spells plain slots c' (Fork n l r) above (c' above side) =
-          (upper side ∙ h.spelled.0, tree_node_same plain slots c c' above n even refl refl node, spells_same plain slots c c' l n (c n Left) same_l h.spelled.2, spells_same plain slots c c' r n (c n Right) same_r h.spelled.3) in
+      (upper side ∙ h.spelled.0, tree_node_same plain slots c c' above n even refl refl node, spells_same plain slots c c' l n (c n Left) same_l h.spelled.2, spells_same plain slots c c' r n (c n Right) same_r h.spelled.3) in
       let sub : pairs_of c' (Fork n l r) ≡ pairs_of c l ++ ((k, value) ∷ pairs_of c r) =
-          (let left : pairs_of c' l ≡ pairs_of c l = pairs_same c c' l same_l in let right : pairs_of c' r ≡ pairs_of c r = pairs_same c c' r same_r in
-           let here : c' n ValueField ≡ value = with_value-value n in (λ i. left i ++ ((e i, here i) ∷ right i))) in
+      (let left : pairs_of c' l ≡ pairs_of c l = pairs_same c c' l same_l in let right : pairs_of c' r ≡ pairs_of c r = pairs_same c c' r same_r in
+      let here : c' n ValueField ≡ value = with_value-value n in (λ i. left i ++ ((e i, here i) ∷ right i))) in
       refilled plain slots c ps s k above side (Fork n l r) (Fork n l r) h c' (put k value ps) framed spelled
-          (ap (λ (x : Pairs). h.before ++ (x ++ h.after)) sub ∙ sym (put-hole plain slots c ps s.tree k above side value n l r s.rising h e))
-          (put_rises k value ps s.rising) (put_small k value ps small_key small_value s.small)
-          (λ m is even' old. ⊎_elim (λ i. i) (λ odd. let p : c' m VersionField % 2 ≡ c m VersionField % 2 = parity m in absurd (omega arith)) old)
+      (ap (λ (x : Pairs). h.before ++ (x ++ h.after)) sub ∙ sym (put-hole plain slots c ps s.tree k above side value n l r s.rising h e))
+      (put_rises k value ps s.rising) (put_small k value ps small_key small_value s.small)
+      (λ m is even' old. ⊎_elim (λ i. i) (λ odd. let p : c' m VersionField % 2 ≡ c m VersionField % 2 = parity m in absurd (omega arith)) old)
 
   -- the fields of a leaf
   abbrev pub leaf : Fresh
@@ -135,7 +135,7 @@ module _ (slots : ℕ) (c : Cells) (ps : Pairs) (k value : ℕ) (ready : IsReady
     pub with_leaf-parity : (m : ℕ) → (side ≡ Left) ⊎ (side ≡ Right) → n ≤ slots + 1 → n ≢ slot → m ≢ slot → with_leaf n side slot m VersionField % 2 ≡ c m VersionField % 2
     with_leaf-parity m link le ne ne' = ⊎_elim
         (λ e. let small : c n VersionField < 2 ^ 60 = ready.fits.versions n le in
-          subst (λ (x : ℕ). with_leaf n side slot x VersionField % 2 ≡ c x VersionField % 2) (sym e) (ap (λ (x : ℕ). x % 2) (with_leaf-version (is_link_field side link)) ∙ two_more-parity (c n VersionField) small))
+        subst (λ (x : ℕ). with_leaf n side slot x VersionField % 2 ≡ c x VersionField % 2) (sym e) (ap (λ (x : ℕ). x % 2) (with_leaf-version (is_link_field side link)) ∙ two_more-parity (c n VersionField) small))
         (λ other. ap (λ (x : ℕ). x % 2) (with_leaf-other m VersionField other ne')) (cases_eq m n)
 
     pub with_leaf-even : n ≢ slot → IsOdd (c slot VersionField) → with_leaf n side slot slot VersionField % 2 ≡ 0
@@ -157,13 +157,13 @@ module _ (slots : ℕ) (c : Cells) (ps : Pairs) (k value : ℕ) (ready : IsReady
         parent = with_leaf-field above side slot Parent apart facts.parent (λ e. absurd (omega (arith, e)));
         height = with_leaf-field above side slot Height apart facts.height (λ e. absurd (omega (arith, e)));
         other = with_leaf-field above side slot (other_link side) apart facts.other facts.other_version;
-        unmarked = version ∙ h.unmarked
+        unmarked = version ∙ h.unmarked;
       } in
       let here : (f : Field) → c' slot f ≡ fresh_fields (c slot VersionField) leaf f = λ f. with_leaf-slot above side slot f (λ e. apart (sym e)) in
       let leaf_node : IsTreeNode plain slots c' above slot = record { slot = is_slot; unmarked = with_leaf-even above side slot apart odd; of_kind = (here Parent, here Height) } in
       let spelled : Spells plain slots c' (Fork slot Empty Empty) above (c' above side) = (with_leaf-link above side slot, leaf_node, here Left, here Right) in
       let sub : pairs_of c' (Fork slot Empty Empty) ≡ (k, value) ∷ [] = (let key : c' slot KeyField ≡ k = here KeyField in let val : c' slot ValueField ≡ value = here ValueField in (λ i. (key i, val i) ∷ [])) in
       refilled plain slots c ps s k above side Empty (Fork slot Empty Empty) h c' (put k value ps) framed spelled
-          (ap (λ (x : Pairs). h.before ++ (x ++ h.after)) sub ∙ sym (put-empty_hole plain slots c ps s.tree k above side value h))
-          (put_rises k value ps s.rising) (put_small k value ps small_key small_value s.small)
-          (λ m is even old. ⊎_elim (λ i. absurd i) (λ was_odd. ⊎_elim (λ e. inl e) (λ ne. let p : c' m VersionField % 2 ≡ c m VersionField % 2 = with_leaf-parity above side slot m link node.1 apart ne in absurd (omega arith)) (cases_eq m slot)) old)
+      (ap (λ (x : Pairs). h.before ++ (x ++ h.after)) sub ∙ sym (put-empty_hole plain slots c ps s.tree k above side value h))
+      (put_rises k value ps s.rising) (put_small k value ps small_key small_value s.small)
+      (λ m is even old. ⊎_elim (λ i. absurd i) (λ was_odd. ⊎_elim (λ e. inl e) (λ ne. let p : c' m VersionField % 2 ≡ c m VersionField % 2 = with_leaf-parity above side slot m link node.1 apart ne in absurd (omega arith)) (cases_eq m slot)) old)

@@ -36,14 +36,22 @@ raised n version = record { node = n; field = VersionField; old = version; new =
 -- the value of a node is changed
 abbrev pub value_changed : ℕ → ℕ → ℕ → ℕ → Planned
 value_changed n version old value = record {
-    adds = raised n version ∷ record { node = n; field = ValueField; old = old; new = ToNumber value } ∷ [];
-    charged = []; fresh = None; mark = None; reply = Was old }
+  adds = raised n version ∷ record { node = n; field = ValueField; old = old; new = ToNumber value } ∷ [];
+  charged = [];
+  fresh = None;
+  mark = None;
+  reply = Was old;
+}
 
 -- a fresh node is hung at a link that names no node
 abbrev pub leaf_added : ℕ → ℕ → Field → ℕ → ℕ → ℕ → Planned
 leaf_added n version side link key value = record {
-    adds = raised n version ∷ record { node = n; field = side; old = link; new = ToFresh } ∷ [];
-    charged = []; fresh = Some (record { key = key; value = value; parent = 0; height = 0 }); mark = None; reply = New }
+  adds = raised n version ∷ record { node = n; field = side; old = link; new = ToFresh } ∷ [];
+  charged = [];
+  fresh = Some (record { key = key; value = value; parent = 0; height = 0 });
+  mark = None;
+  reply = New;
+}
 
 -- a put that has walked on: at the key it reads the old value, and where the key is missing it adds a leaf
 abbrev pub put_walked : ℕ → Walk → Step → PutPhase × Ask

@@ -31,7 +31,7 @@ impl Model for BstGet {
 
 impl Plan for BstGet {
     ghost use Rattle.pc_bst.specs.Gets.{get_of, get_moves, IsKey, get_call};
-    ghost use Rattle.pc_bst.specs.GetLaws.{get_runs};
+    ghost use Rattle.pc_bst.specs.GetLaws.{get_runs, get_lawful};
     ghost use Rattle.pc_bst.specs.PlainTrees.{IsPlainTree};
     ghost use Rattle.pc_bst.specs.PlainTreeLaws.{plain_parity, plain_full};
 
@@ -53,6 +53,7 @@ impl Plan for BstGet {
 
     ghost full = { plain_full };
 
+    ghost lawful = { get_lawful };
 
     fn begin(call: u64) -> BstGet {
         BstGet {

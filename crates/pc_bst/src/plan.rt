@@ -6,7 +6,7 @@ ghost use Rattle.pc_model.specs.Cells.{Cells};
 ghost use Rattle.pc_bst.specs.declared.plan.Ask.{Ask as Asked};
 ghost use Rattle.pc_bst.specs.declared.plan.Told.{Told as Heard};
 ghost use Rattle.pc_bst.specs.Runs.{Runs, KeepsParity, CountsSlots};
-
+ghost use Rattle.pc_bst.specs.Lawful.{IsLawful};
 
 use crate::change::Change;
 use pc_model::{Call, Field, Reply};
@@ -78,5 +78,5 @@ pub trait Plan: Drop {
     ghost full: { CountsSlots sound };
 
     // Whatever it is told, the plan asks for nothing but what it may.
-    //ghost lawful: { IsLawful start moves can_call };
+    ghost lawful: { IsLawful start moves can_call };
 }

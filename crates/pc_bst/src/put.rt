@@ -34,7 +34,7 @@ impl Model for BstPut {
 
 impl Plan for BstPut {
     ghost use Rattle.pc_bst.specs.Puts.{put_of, put_moves, IsPair, put_call};
-    ghost use Rattle.pc_bst.specs.PutLaws.{put_runs};
+    ghost use Rattle.pc_bst.specs.PutLaws.{put_runs, put_lawful};
     ghost use Rattle.pc_bst.specs.PlainTrees.{IsPlainTree};
     ghost use Rattle.pc_bst.specs.PlainTreeLaws.{plain_parity, plain_full};
 
@@ -56,6 +56,7 @@ impl Plan for BstPut {
 
     ghost full = { plain_full };
 
+    ghost lawful = { put_lawful };
 
     fn begin(call: (u64, u64)) -> BstPut {
         BstPut {
