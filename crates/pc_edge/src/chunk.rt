@@ -71,7 +71,8 @@ impl Chunk {
     /// Puts a number after what waits, in decimal digits with no leading zeros.
     pub fn push_number(&mut self, n: u64)
         requires { length self.old + 20 ≤ SIZE }
-        ensures { self.new ≡ self.old ++ decimal n }
+        ensures digits { self.new ≡ self.old ++ decimal n }
+        ensures short { length self.new ≤ length self.old + 20 }
     {
         let mut digits = [0; DIGITS];
         let start = write_digits(n, &mut digits, DIGITS);

@@ -34,12 +34,12 @@ impl Model for MemorySource {
     ghost Value = { SourceState };
 
     ghost view = { λ s. record {
-        bytes = s.bytes.items;
-        at = s.at;
-        piece = s.piece;
-        fails = s.fails.items;
-        calls = s.calls;
-        faults = s.faults;
+      bytes = s.bytes.items;
+      at = s.at;
+      piece = s.piece;
+      fails = s.fails.items;
+      calls = s.calls;
+      faults = s.faults;
     } };
 
     ghost invariant = { λ s. 1 ≤ s.piece };
@@ -95,12 +95,12 @@ impl Model for MemorySink {
     ghost Value = { SinkState };
 
     ghost view = { λ s. record {
-        held = s.held.items;
-        room = s.room;
-        piece = s.piece;
-        fails = s.fails.items;
-        calls = s.calls;
-        faults = s.faults;
+      held = s.held.items;
+      room = s.room;
+      piece = s.piece;
+      fails = s.fails.items;
+      calls = s.calls;
+      faults = s.faults;
     } };
 
     ghost invariant = { λ s. (1 ≤ s.piece) × (length s.held.items ≤ s.room) × (s.room ≤ vec_capacity s.held) };

@@ -13,3 +13,6 @@ pub use chunk::{Chunk, SIZE, write_all};
 pub use in_memory::{MemorySink, MemorySource};
 pub use standard::{NeverFails, OpenGate, StdSink, StdSource};
 pub use traits::{Failed, Gate, Sink, Source};
+
+#[cfg(test)]
+mod tests;

@@ -10,6 +10,7 @@ use std::io::{Read, Write};
 
 /// A source over a reader of the standard library. Each error of the reader is a fault, an
 /// interrupted read too: whoever wants it tried again reads again.
+#[derive(Drop)]
 pub struct StdSource<R> {
     /// The reader.
     pub inner: R,
@@ -35,6 +36,7 @@ impl<R: Read> Source for StdSource<R> {
 
 /// A sink over a writer of the standard library. Each error of the writer is a fault, an interrupted
 /// write too, and so is a write that takes nothing of a piece that isn't empty.
+#[derive(Drop)]
 pub struct StdSink<W> {
     /// The writer.
     pub inner: W,
@@ -60,6 +62,7 @@ impl<W: Write> Sink for StdSink<W> {
 
 /// A source over borrowed bytes that gives as much as fits at each read and never fails: its count
 /// of faults is the constant 0.
+#[derive(Drop)]
 pub struct NeverFails<'a> {
     /// All the bytes.
     pub bytes: &'a [u8],
@@ -88,6 +91,7 @@ impl<'a> Source for NeverFails<'a> {
 }
 
 /// A gate that does nothing.
+#[derive(Clone, Copy, Debug)]
 pub struct OpenGate;
 
 impl Gate for OpenGate {

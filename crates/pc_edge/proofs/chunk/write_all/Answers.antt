@@ -1,5 +1,5 @@
 -- Each write sends the next part of the piece; where one fails, a front was sent.
-use Rattle.std.proofs.Common.{◌≡◌, ℕ, ◌+◌, ◌-◌, ◌≤◌, List, ◌++◌, Option, length, take, drop, refl, sym, ap, ◌∙◌, subst, arith, length-drop}
+use Rattle.std.proofs.Common.{◌≡◌, ℕ, ◌+◌, ◌-◌, List, ◌++◌, Option, length, take, drop, sym, ap, ◌∙◌, subst, arith, length-drop}
 use Rattle.std.proofs.Math.Seq.{take-add}
 use Rattle.std.proofs.lemmas.List.{take-append-drop, take_all}
 use Rattle.std.proofs.lemmas.Result.{err_from_is_err_and}
@@ -17,7 +17,7 @@ next : (a b c : Option (List ℕ)) (piece : List ℕ) (at n : ℕ) → Appends a
     → Appends b c (take n (take (length piece - at) (drop at piece))) → Appends a c (take (at + n) piece)
 next a b c piece at n p q =
     let whole : take at piece ++ take n (take (length piece - at) (drop at piece)) ≡ take (at + n) piece =
-        ap (λ l. take at piece ++ take n l) (rest piece at) ∙ sym (take-add at n piece) in
+    ap (λ l. take at piece ++ take n l) (rest piece at) ∙ sym (take-add at n piece) in
     subst (Appends a c) whole (Appends-trans a b c (take at piece) (take n (take (length piece - at) (drop at piece))) p q)
 
 front : (a b c : Option (List ℕ)) (piece : List ℕ) (at : ℕ) → Appends a b (take at piece) → Keeps b c → AppendsFront a c piece
@@ -27,7 +27,7 @@ pub loop-at-preserved : goal.loop-at-preserved
 loop-at-preserved g c = record {
   within = omega (arith, c.in_ok-at.ensures.bound, length-drop c.loop-at.at c.args.piece.now);
   sent = next _ _ _ c.args.piece.now c.loop-at.at c.in_ok-at.field-0 c.loop-at.invariant.sent c.in_ok-at.ensures.bytes;
-  kept = omega (arith, c.in_ok-at.ensures.never_falls)
+  kept = omega (arith, c.in_ok-at.ensures.never_falls);
 }
 
 pub returns-in_err-at-clause-err : goal.returns-in_err-at-clause-err
