@@ -3,6 +3,16 @@
 //! and how many faults they met. Whatever reads or writes in this library does it through these.
 #![tactic(auto)]
 
+mod chunk;
+mod copy;
+mod in_memory;
+mod standard;
 mod traits;
 
+pub use chunk::{Chunk, SIZE, write_all};
+pub use in_memory::{MemorySink, MemorySource};
+pub use standard::{NeverFails, OpenGate, StdSink, StdSource};
 pub use traits::{Failed, Gate, Sink, Source};
+
+#[cfg(test)]
+mod tests;

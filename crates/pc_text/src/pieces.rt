@@ -1,0 +1,125 @@
+//! The pieces that lines are made of, put into a chunk that has room for them.
+ghost use Rattle.std.specs.Prelude.{◌≡◌, ◌+◌, ◌≤◌, ◌++◌, length};
+ghost use Rattle.pc_text.specs.Printed.{call_text, reply_text, turn_text, entry_line, pair_line, left_line, end_line};
+
+use pc_edge::{Chunk, SIZE};
+use pc_model::{Call, Entry, Reply};
+
+/// Room enough for any line.
+pub(crate) const LINE: usize = 512;
+
+/// Puts `c.m`.
+#[tactic(auto, unfolding(crate::specs::Printed::turn_text), using(std::proofs::Common::append_assoc))]
+pub(crate) fn push_turn(chunk: &mut Chunk, pass: u32, number: u32)
+    requires { length chunk.old + 41 ≤ SIZE }
+    ensures text { chunk.new ≡ chunk.old ++ turn_text pass number }
+    ensures short { length chunk.new ≤ length chunk.old + 41 }
+{
+    chunk.push_number(u64::from(pass));
+    chunk.push_byte(b'.');
+    chunk.push_number(u64::from(number));
+}
+
+/// Puts a command.
+#[tactic(auto, unfolding(crate::specs::Printed::call_text), using(std::proofs::Common::append_assoc))]
+pub(crate) fn push_call(chunk: &mut Chunk, call: &Call)
+    requires { length chunk.old + 48 ≤ SIZE }
+    ensures text { chunk.new ≡ chunk.old ++ call_text call.now }
+    ensures short { length chunk.new ≤ length chunk.old + 48 }
+{
+    match *call {
+        Call::Put { key, value } => {
+            chunk.push(b"put ");
+            chunk.push_number(key);
+            chunk.push_byte(b' ');
+            chunk.push_number(value);
+        }
+        Call::Get { key } => {
+            chunk.push(b"get ");
+            chunk.push_number(key);
+        }
+        Call::Remove { key } => {
+            chunk.push(b"remove ");
+            chunk.push_number(key);
+        }
+        Call::Ceil { key } => {
+            chunk.push(b"ceil ");
+            chunk.push_number(key);
+        }
+        Call::Floor { key } => {
+            chunk.push(b"floor ");
+            chunk.push_number(key);
+        }
+    }
+}
+
+/// Puts a reply.
+#[tactic(auto, unfolding(crate::specs::Printed::reply_text), using(std::proofs::Common::append_assoc))]
+pub(crate) fn push_reply(chunk: &mut Chunk, reply: &Reply)
+    requires { length chunk.old + 41 ≤ SIZE }
+    ensures text { chunk.new ≡ chunk.old ++ reply_text reply.now }
+    ensures short { length chunk.new ≤ length chunk.old + 41 }
+{
+    match *reply {
+        Reply::New => chunk.push(b"new"),
+        Reply::Was(value) => {
+            chunk.push(b"was ");
+            chunk.push_number(value);
+        }
+        Reply::Value(value) => chunk.push_number(value),
+        Reply::None => chunk.push(b"none"),
+        Reply::Pair(key, value) => {
+            chunk.push_number(key);
+            chunk.push_byte(b' ');
+            chunk.push_number(value);
+        }
+    }
+}
+
+/// Puts the line of an entry.
+#[tactic(auto, unfolding(crate::specs::Printed::entry_line), using(std::proofs::Common::append_assoc))]
+pub(crate) fn push_entry(chunk: &mut Chunk, place: u64, entry: &Entry)
+    requires { length chunk.old + LINE ≤ SIZE }
+    ensures { chunk.new ≡ chunk.old ++ entry_line place entry.now }
+{
+    chunk.push_number(place);
+    chunk.push_byte(b' ');
+    push_turn(chunk, entry.pass, entry.number);
+    chunk.push_byte(b' ');
+    push_call(chunk, &entry.call);
+    chunk.push(b" = ");
+    push_reply(chunk, &entry.reply);
+    chunk.push_byte(b'\n');
+}
+
+/// Puts the line of a pair.
+#[tactic(auto, unfolding(crate::specs::Printed::pair_line), using(std::proofs::Common::append_assoc))]
+pub(crate) fn push_pair(chunk: &mut Chunk, pair: &(u64, u64))
+    requires { length chunk.old + LINE ≤ SIZE }
+    ensures { chunk.new ≡ chunk.old ++ pair_line pair.now }
+{
+    chunk.push_number(pair.0);
+    chunk.push_byte(b' ');
+    chunk.push_number(pair.1);
+    chunk.push_byte(b'\n');
+}
+
+/// Puts the line that says how many pairs are left.
+#[tactic(auto, unfolding(crate::specs::Printed::left_line), using(std::proofs::Common::append_assoc))]
+pub(crate) fn push_left(chunk: &mut Chunk, pairs: usize)
+    requires { length chunk.old + LINE ≤ SIZE }
+    ensures { chunk.new ≡ chunk.old ++ left_line pairs }
+{
+    chunk.push(b"left ");
+    chunk.push_number(pairs as u64);
+    chunk.push_byte(b'\n');
+}
+
+/// Puts the last line.
+#[tactic(auto, unfolding(crate::specs::Printed::end_line), using(std::proofs::Common::append_assoc))]
+pub(crate) fn push_end(chunk: &mut Chunk)
+    requires { length chunk.old + LINE ≤ SIZE }
+    ensures { chunk.new ≡ chunk.old ++ end_line }
+{
+    chunk.push(b"end\n");
+}
