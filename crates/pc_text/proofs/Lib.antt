@@ -1,0 +1,4 @@
+pub mod NumberLemmas
+pub mod PartsLemmas
+pub mod ReadLemmas
+pub mod WordsLemmas

@@ -1,0 +1,5 @@
+pub mod Parts
+pub mod ScriptValue
+pub mod ScriptWords
+pub mod Script
+pub mod ScriptFacts
