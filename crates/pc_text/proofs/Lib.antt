@@ -2,3 +2,4 @@ pub mod NumberLemmas
 pub mod PartsLemmas
 pub mod ReadLemmas
 pub mod WordsLemmas
+pub mod Rows
