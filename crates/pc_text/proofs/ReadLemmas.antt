@@ -11,7 +11,7 @@ use Rattle.pc_text.specs.declared.line.LineClass.{LineClass}
 use Rattle.pc_text.specs.declared.line.LineClass.TheVariants.{Skip, Turn, Command, Bad}
 use Rattle.pc_text.specs.Parts.{parts_of, EndsFirstPart}
 use Rattle.pc_text.specs.Script.{class_of_rest, classes_of_parts, classes_of, first_bad, clients_of, calls_of, script_of, script_unless, script_of_classes}
-use Rattle.pc_text.specs.ScriptFacts.{IsInRange, IsPutOrGet}
+use Rattle.pc_text.specs.ScriptFacts.{IsCallInRange, IsPutOrGet}
 use Rattle.pc_text.specs.ScriptValue.{ScriptValue}
 use Rattle.pc_text.specs.ScriptWords.{class_of}
 
@@ -35,14 +35,14 @@ pub record HasRead (bytes rest : List ℕ) (calls : List Call) (count : ℕ) : T
   pub clients : clients_of (classes_of bytes) ≡ clients_of (classes_of rest)
   pub commands : calls_of 1 1 (classes_of bytes) ≡ calls ++ calls_of 1 1 (classes_of rest)
   pub few : count ≤ 60000
-  pub in_range : All IsInRange calls
+  pub in_range : All IsCallInRange calls
   pub puts_and_gets : All IsPutOrGet calls
 
 pub has_read_none : (bytes : List ℕ) → HasRead bytes bytes [] 0
 has_read_none bytes = record { faults = refl; clients = refl; commands = refl; few = omega arith; in_range = λ k d below. absurd (omega arith); puts_and_gets = λ k d below. absurd (omega arith) }
 
 -- one more line that is a command
-pub has_read_more : (bytes rest : List ℕ) (calls : List Call) (count end : ℕ) (call : Call) → HasRead bytes rest calls count → EndsFirstPart 10 rest (Some end) → Command call ≡ class_of (take end rest) → count < 60000 → IsInRange call → IsPutOrGet call → HasRead bytes (drop (end + 1) rest) (calls ++ call ∷ []) (count + 1)
+pub has_read_more : (bytes rest : List ℕ) (calls : List Call) (count end : ℕ) (call : Call) → HasRead bytes rest calls count → EndsFirstPart 10 rest (Some end) → Command call ≡ class_of (take end rest) → count < 60000 → IsCallInRange call → IsPutOrGet call → HasRead bytes (drop (end + 1) rest) (calls ++ call ∷ []) (count + 1)
 has_read_more bytes rest calls count end call read ends command room in_range put_or_get =
     let more = drop (end + 1) rest in
     let first : classes_of rest ≡ Command call ∷ classes_of more = classes_of-first rest end ends ∙ ap (λ line. line ∷ classes_of more) (sym command) in
@@ -52,7 +52,7 @@ has_read_more bytes rest calls count end call read ends command room in_range pu
       clients = read.clients ∙ ap clients_of first;
       commands = read.commands ∙ ap (λ lines. calls ++ calls_of 1 1 lines) first ∙ sym (append_assoc calls (call ∷ []) (calls_of 1 1 (classes_of more)));
       few = omega arith;
-      in_range = All-push IsInRange calls call read.in_range in_range;
+      in_range = All-push IsCallInRange calls call read.in_range in_range;
       puts_and_gets = All-push IsPutOrGet calls call read.puts_and_gets put_or_get;
     }
 

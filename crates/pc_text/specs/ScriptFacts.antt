@@ -6,12 +6,12 @@ use Rattle.pc_text.specs.declared.line.LineClass.{LineClass}
 use Rattle.pc_text.specs.declared.line.LineClass.TheVariants.{Skip, Turn, Command, Bad}
 
 -- the numbers of a call are at most 999999999999999999
-abbrev pub IsInRange : Call → Type 0
-IsInRange (Put key value) = (key ≤ 999999999999999999) × (value ≤ 999999999999999999)
-IsInRange (Get key) = key ≤ 999999999999999999
-IsInRange (Remove key) = key ≤ 999999999999999999
-IsInRange (Ceil key) = key ≤ 999999999999999999
-IsInRange (Floor key) = key ≤ 999999999999999999
+abbrev pub IsCallInRange : Call → Type 0
+IsCallInRange (Put key value) = (key ≤ 999999999999999999) × (value ≤ 999999999999999999)
+IsCallInRange (Get key) = key ≤ 999999999999999999
+IsCallInRange (Remove key) = key ≤ 999999999999999999
+IsCallInRange (Ceil key) = key ≤ 999999999999999999
+IsCallInRange (Floor key) = key ≤ 999999999999999999
 
 abbrev pub IsPutOrGet : Call → Type 0
 IsPutOrGet (Put key value) = ⊤
@@ -26,7 +26,7 @@ AreFew lists = All (λ calls. length calls ≤ 60000) lists
 
 -- every call's numbers are in range
 abbrev pub AreInRange : List (List Call) → Type 0
-AreInRange lists = All (All IsInRange) lists
+AreInRange lists = All (All IsCallInRange) lists
 
 -- there are no other calls than puts and gets
 abbrev pub ArePutsAndGets : List (List Call) → Type 0
@@ -36,5 +36,5 @@ ArePutsAndGets lists = All (All IsPutOrGet) lists
 abbrev pub IsPlain : LineClass → Type 0
 IsPlain Skip = ⊥
 IsPlain (Turn client) = ⊥
-IsPlain (Command call) = IsInRange call × IsPutOrGet call
+IsPlain (Command call) = IsCallInRange call × IsPutOrGet call
 IsPlain (Bad kind) = ⊤

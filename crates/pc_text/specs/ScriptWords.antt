@@ -1,5 +1,5 @@
 -- What a line of a script is, by its words.
-use Rattle.std.specs.Prelude.{ℕ, Bool, ◌&&◌, nat_lt, nat_le, if◌then◌else◌, List, [], ◌∷◌, length, Option, Some, None}
+use Rattle.std.specs.Prelude.{codes, ℕ, Bool, ◌&&◌, nat_lt, nat_le, if◌then◌else◌, List, [], ◌∷◌, length, Option, Some, None}
 use Rattle.std.specs.Char.{is_ascii_digit}
 use Rattle.std.specs.List.{list_all}
 use Rattle.std.specs.Str.{bytes_eq}
@@ -40,12 +40,12 @@ abbrev pub get_of : List (List ℕ) → LineClass
 get_of (key ∷ []) = get_with (number_of key)
 get_of _ = Bad WordCount
 
--- the first word is `put` (112, 117, 116) or `get` (103, 101, 116)
+-- the first word says which command it is
 abbrev pub class_of_words : List (List ℕ) → LineClass
 class_of_words [] = Bad UnknownWord
 class_of_words (word ∷ words) =
-    if bytes_eq word (112 ∷ 117 ∷ 116 ∷ []) then put_of words
-    else if bytes_eq word (103 ∷ 101 ∷ 116 ∷ []) then get_of words
+    if bytes_eq word (codes "put") then put_of words
+    else if bytes_eq word (codes "get") then get_of words
     else Bad UnknownWord
 
 -- what a line is, where a line feed ends it

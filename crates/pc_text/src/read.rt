@@ -1,7 +1,7 @@
 //! Reading a script from its bytes, in one pass.
 ghost use Rattle.std.specs.Prelude.{◌≡◌, ◌≤◌, [], ◌∷◌, length, IfOk, All, IsErr, vec_len};
 ghost use Rattle.pc_text.specs.Script.{script_of};
-ghost use Rattle.pc_text.specs.ScriptFacts.{AreFew, AreInRange, ArePutsAndGets, IsInRange, IsPutOrGet};
+ghost use Rattle.pc_text.specs.ScriptFacts.{AreFew, AreInRange, ArePutsAndGets, IsCallInRange, IsPutOrGet};
 
 use crate::line::{LineClass, read_line};
 use crate::parts::{after_cut, first_part_end};
@@ -39,7 +39,7 @@ fn read_calls(alloc: Global, bytes: &[u8]) -> Result<Vec<Call>, ScriptFault>
     ensures script { IfOk result (λ calls. script_of bytes.now ≡ Ok (record { clients = 1; calls = calls.items ∷ [] })) }
     ensures not_built { result ≡ Err ScriptFault.NotBuilt → IsErr (script_of bytes.now) }
     ensures few { IfOk result (λ calls. vec_len calls ≤ 60000) }
-    ensures in_range { IfOk result (λ calls. All IsInRange calls.items) }
+    ensures in_range { IfOk result (λ calls. All IsCallInRange calls.items) }
     ensures puts_and_gets { IfOk result (λ calls. All IsPutOrGet calls.items) }
 {
     let mut calls = Vec::new(alloc);
