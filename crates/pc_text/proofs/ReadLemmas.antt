@@ -1,16 +1,15 @@
 -- One pass over the lines: what is read off all of them is what the lines so far gave, with what is
 -- read off those that are left.
-use Rattle.std.proofs.Common.{◌≡◌, ℕ, ◌+◌, ◌<◌, ◌≤◌, true, false, nat_lt, cond, List, [], ◌∷◌, ◌++◌, length, take, drop, Option, Some, None, Result, Ok, Err, IsErr, refl, ap, sym, ◌∙◌, arith, append_assoc, All, length-append, append-nil}
+use Rattle.std.proofs.Common.{◌≡◌, ℕ, ◌+◌, ◌<◌, ◌≤◌, true, false, nat_lt, List, [], ◌∷◌, ◌++◌, length, take, drop, Some, None, Result, Ok, IsErr, refl, ap, sym, ◌∙◌, arith, append_assoc, All, append-nil}
 use Rattle.std.proofs.lemmas.Bool.{lt-ltb, le-ltb}
 use Rattle.std.proofs.lemmas.List.Elements.{All-push}
 use Rattle.pc_text.proofs.PartsLemmas.{some_parts}
 use Rattle.pc_model.specs.declared.call.Call.{Call}
 use Rattle.pc_text.specs.declared.kind.ScriptKind.{ScriptKind}
 use Rattle.pc_text.specs.declared.kind.ScriptKind.TheVariants.{BadByte, TooManyLines}
-use Rattle.pc_text.specs.declared.line.LineClass.{LineClass}
-use Rattle.pc_text.specs.declared.line.LineClass.TheVariants.{Skip, Turn, Command, Bad}
+use Rattle.pc_text.specs.declared.line.LineClass.TheVariants.{Command, Bad}
 use Rattle.pc_text.specs.Parts.{parts_of, EndsFirstPart}
-use Rattle.pc_text.specs.Script.{class_of_rest, classes_of_parts, classes_of, first_bad, clients_of, calls_of, script_of, script_unless, script_of_classes}
+use Rattle.pc_text.specs.Script.{class_of_rest, classes_of_parts, classes_of, first_bad, clients_of, calls_of, script_of}
 use Rattle.pc_text.specs.ScriptFacts.{IsCallInRange, IsPutOrGet}
 use Rattle.pc_text.specs.ScriptValue.{ScriptValue}
 use Rattle.pc_text.specs.ScriptWords.{class_of}

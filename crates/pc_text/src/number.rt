@@ -1,5 +1,5 @@
 //! Numbers as words of a script.
-ghost use Rattle.std.specs.Prelude.{◌≡◌, ◌≤◌, IfSome, IsTrue, length};
+ghost use Rattle.std.specs.Prelude.{◌≡◌, ◌≤◌, IfSome, if◌then◌else◌, length};
 ghost use Rattle.std.specs.Char.{is_ascii_digit};
 ghost use Rattle.std.specs.List.{list_all};
 ghost use Rattle.std.specs.Str.Parse.{digits_value};
@@ -19,29 +19,21 @@ pub fn read_number(word: &[u8]) -> Option<u64>
     if word.len() > MOST_DIGITS {
         return None;
     }
-    if are_digits(word) {
-        Some(value_of_digits(word))
-    } else {
-        None
-    }
+    value_of_digits(word)
 }
 
-fn are_digits(word: &[u8]) -> bool
-    ensures { result ≡ list_all is_ascii_digit word.now }
-{
-    word.iter().all(|byte| byte.is_ascii_digit())
-}
-
-/// The number that up to eighteen digits spell in tens.
-fn value_of_digits(word: &[u8]) -> u64
-    requires few { length word.now ≤ 18 }
-    requires digits { IsTrue (list_all is_ascii_digit word.now) }
-    ensures value { result ≡ digits_value 10 word.now }
-    ensures in_range { result ≤ 999999999999999999 }
+// The number that up to eighteen bytes spell in tens, if they are digits.
+fn value_of_digits(word: &[u8]) -> Option<u64>
+    requires { length word.now ≤ 18 }
+    ensures value { result ≡ (if list_all is_ascii_digit word.now then Some (digits_value 10 word.now) else None) }
+    ensures in_range { IfSome result (λ n. n ≤ 999999999999999999) }
 {
     let mut value = 0;
     for byte in word {
+        if !byte.is_ascii_digit() {
+            return None;
+        }
         value = value * 10 + u64::from(*byte - b'0');
     }
-    value
+    Some(value)
 }
