@@ -1,1 +1,6 @@
 pub mod Lines
+pub mod NumberLemmas
+pub mod PartsLemmas
+pub mod ReadLemmas
+pub mod Rows
+pub mod WordsLemmas

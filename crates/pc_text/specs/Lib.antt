@@ -1,2 +1,7 @@
-pub mod Printed
 pub mod FaultLine
+pub mod Parts
+pub mod Printed
+pub mod Script
+pub mod ScriptFacts
+pub mod ScriptValue
+pub mod ScriptWords

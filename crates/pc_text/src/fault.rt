@@ -5,26 +5,10 @@ ghost use Rattle.pc_edge.specs.Faults.{HasRisen};
 ghost use Rattle.pc_edge.specs.Sending.{AppendsFront};
 ghost use Rattle.pc_text.specs.FaultLine.{kind_text, counter_text, fault_text, fault_line};
 
-use super::pieces::{LINE, push_turn};
+use crate::kind::ScriptKind;
+use crate::pieces::{LINE, push_turn};
 use pc_edge::{Chunk, Failed, SIZE, Sink};
 use pc_model::Counter;
-
-/// What is wrong with a line of a script.
-#[derive(Clone, Copy, Debug, PartialEq, Eq)]
-pub enum ScriptKind {
-    /// A byte that no script has.
-    BadByte = 1,
-    /// A first word that is no command.
-    UnknownWord = 2,
-    /// A command with too few or too many words.
-    WordCount = 3,
-    /// A word that is no number, or one of too many digits.
-    BadNumber = 4,
-    /// A client past the last one.
-    TooManyClients = 5,
-    /// A command past the last one.
-    TooManyLines = 6,
-}
 
 /// What ends a run without a result.
 #[derive(Clone, Copy, Debug, PartialEq, Eq)]

@@ -1,13 +1,27 @@
-//! The text that the library reads and writes: what a run prints, and the line of each fault. All
-//! text goes to a sink through a chunk of some KiB, so printing takes no memory.
+//! The text that the library reads and writes: the script of commands, what a run prints, and the
+//! line of each fault. A script is read from its bytes in one pass. All that is written goes to a
+//! sink through a chunk of some KiB, so printing takes no memory.
 #![tactic(auto)]
 
 mod fault;
+mod kind;
+mod laws;
+mod line;
+mod number;
+mod parts;
 mod pieces;
 mod print;
+mod read;
+mod script;
 
-pub use fault::{Fault, ScriptKind, print_fault};
+pub use fault::{Fault, print_fault};
+pub use kind::ScriptKind;
+pub use laws::empty_input_gives_empty_script;
 pub use print::{Extras, ShapeLine, print_run};
+pub use read::read_script;
+pub use script::{Script, ScriptFault};
 
 #[cfg(test)]
-mod tests;
+mod print_tests;
+#[cfg(test)]
+mod read_tests;
