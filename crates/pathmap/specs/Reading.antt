@@ -1,0 +1,25 @@
+-- What reading an input to its end takes of a source.
+use Rattle.std.specs.Prelude.{◌≡◌, ℕ, ◌<◌, ◌≤◌, List, ◌++◌, length, Option, IfSome}
+use Rattle.std.specs.Io.KnownBytes.{Consumes, IsAtEnd}
+
+-- these are all the bytes that the source had, where it tells them
+abbrev pub IsInput : Option (List ℕ) → List ℕ → Type 0
+IsInput left bytes = IfSome left (λ input. input ≡ bytes)
+
+-- the source had more bytes than this, where it tells them
+abbrev pub IsLongerThan : ℕ → Option (List ℕ) → Type 0
+IsLongerThan n left = IfSome left (λ input. n < length input)
+
+-- no more bytes than this were taken
+pub record TakesAtMost (n : ℕ) (old new : Option (List ℕ)) : Type 0 where
+  pub taken : List ℕ
+  pub takes : Consumes old new taken
+  pub few : length taken ≤ n
+
+-- so many bytes were taken and stand behind the earlier ones; none only where the source is at its end
+pub record TakesPiece (old new : Option (List ℕ)) (before after : List ℕ) (n : ℕ) : Type 0 where
+  pub piece : List ℕ
+  pub takes : Consumes old new piece
+  pub appended : after ≡ before ++ piece
+  pub count : length piece ≡ n
+  pub end : n ≡ 0 → IsAtEnd new
