@@ -1,4 +1,6 @@
 pub mod Lawful
+pub mod PlainCells
+pub mod PlainRuns
 pub mod Planned
 pub mod Runs
 pub mod Traces

@@ -8,6 +8,7 @@
 mod change;
 mod plan;
 mod walk;
+mod words;
 
 pub use change::{Add, Change, Fresh, To};
 pub use plan::{Ask, Plan, Told};
