@@ -43,3 +43,29 @@ pub record TakesSlot (fresh : Option Fresh) (old_words new_words old_free new_fr
   pub long : length new_words ≡ length old_words
   pub small : slot < 4294967296
   pub parent : IfSome fresh (λ f. f.parent < 4294967296)
+
+-- the cells after an exchange whose fresh node takes this slot
+abbrev pub changed_cells : Planned → ℕ → Cells → Cells
+changed_cells p slot c = applied (exchange_of [] p slot (c slot VersionField)) c
+
+-- the exchange writes words of nodes that fit, and marks a slot in use; and what it leaves out of use
+pub record IsFitting (slots : ℕ) (c : Cells) (p : Planned) (slot : ℕ) : Type 0 where
+  pub parity : (n : ℕ) → IsSlot slots n → changed_cells p slot c n VersionField % 2 ≡ parity_after p slot c n
+  pub marked : IfSome p.mark (λ n. IsSlot slots n × IsEven (c n VersionField))
+  pub words : AreWordsOf slots p.adds
+  pub fresh : IfSome p.fresh (FreshFits slots)
+
+-- the exchange can be made, whichever slot its fresh node takes
+abbrev pub CanMake : PlainWords → Planned → Type 0
+CanMake w p = (slot : ℕ) → Takes w.slots (cells_of w) p slot → IsFitting w.slots (cells_of w) p slot
+
+-- the exchange was made: its fresh node took a slot out of use, and the cells are those that it
+-- leaves, but that great versions were set back
+pub record IsMade (old new : PlainWords) (past : List Event) (p : Planned) : Type 0 where
+  pub slot : ℕ
+  pub takes : Takes old.slots (cells_of old) p slot
+  pub cells : (n : ℕ) (f : Field) → cells_of new n f ≡ kept f (applied (exchange_of past p slot (cells_of old slot VersionField)) (cells_of old) n f)
+
+-- every slot is in use
+abbrev pub AllInUse : PlainWords → Type 0
+AllInUse w = (n : ℕ) → IsSlot w.slots n → IsEven (cells_of w n VersionField)

@@ -6,9 +6,11 @@
 #![tactic(auto)]
 
 mod change;
+mod plain;
 mod plan;
 mod walk;
 mod words;
 
 pub use change::{Add, Change, Fresh, To};
+pub use plain::{NoPlainSlot, PlainCells};
 pub use plan::{Ask, Plan, Told};
