@@ -4,7 +4,7 @@ use Rattle.std.proofs.Common.{◌≡◌, ℕ, zero, suc, ◌+◌, ◌%◌, ◌<�
 use Rattle.std.proofs.lemmas.Bool.{cases_Bool, cases_lt, eqb-true, lt-ltb, le-ltb, cond-true, cond-false, cond_both}
 use Rattle.pc_model.specs.declared.cell.Field.{Field}
 use Rattle.pc_model.specs.declared.cell.Field.TheVariants.{Version, Key, Value, Left, Right, Parent, Height, Spare}
-use Rattle.pc_model.specs.Cells.{Cells, IsNode, IsSlot, field_number, written, with_node}
+use Rattle.pc_model.specs.Cells.{Cells, FitsWords, IsNode, IsSlot, field_number, written, with_node}
 use Rattle.pc_model.specs.Exchanges.{with_changes, with_fresh}
 use Rattle.pc_bst.specs.declared.change.To.{To}
 use Rattle.pc_bst.specs.declared.change.To.TheVariants.{Number, Fresh as FreshNumber}
@@ -156,3 +156,20 @@ fresh_below slots version fresh fits parent Right = omega arith
 fresh_below slots version fresh fits parent Parent = omega arith
 fresh_below slots version fresh fits parent Height = fits.2
 fresh_below slots version fresh fits parent Spare = omega arith
+
+below_words : (f : Field) (x : ℕ) → x < limit f → x < 4611686018427387904
+below_words Version x h = omega arith
+below_words Key x h = h
+below_words Value x h = h
+below_words Left x h = h
+below_words Right x h = h
+below_words Parent x h = h
+below_words Height x h = h
+below_words Spare x h = h
+
+-- cells below their limits fit
+pub fits_words : (slots : ℕ) (c : Cells) → AreBelowLimits c → FitsWords slots c
+fits_words slots c below = record {
+    words = λ n f _. below_words f (c n f) (below n f);
+    versions = λ n _. let h : c n Version < 1152921504606846970 = below n Version in omega arith
+  }

@@ -1,3 +1,4 @@
 pub mod FreeSlots
 pub mod KeptCells
 pub mod Making
+pub mod TraceSteps

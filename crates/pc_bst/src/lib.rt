@@ -8,9 +8,11 @@
 mod change;
 mod plain;
 mod plan;
+mod run;
 mod walk;
 mod words;
 
 pub use change::{Add, Change, Fresh, To};
 pub use plain::{NoPlainSlot, PlainCells};
 pub use plan::{Ask, Plan, Told};
+pub use run::run_plan;

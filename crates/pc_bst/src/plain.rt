@@ -35,6 +35,7 @@ pub struct NoPlainSlot {
 }
 
 impl PlainCells {
+    ghost use Rattle.pc_model.specs.Cells.{FitsWords};
     ghost use Rattle.pc_bst.specs.PlainCells.{cells_of, AreOpening, IsEmptyTree};
     ghost use Rattle.pc_bst.specs.PlainRuns.{CanMake, IsMade, AllInUse};
 
@@ -43,6 +44,7 @@ impl PlainCells {
     pub(crate) fn slots(&self) -> u32
         ensures same { result ≡ self.now.slots }
         ensures few { self.now.slots ≤ 61000 }
+        ensures fits { FitsWords self.now.slots (cells_of self.now) }
     {
         self.slots
     }
