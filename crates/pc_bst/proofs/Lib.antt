@@ -1,4 +1,5 @@
 pub mod FreeSlots
 pub mod KeptCells
 pub mod Making
+pub mod RunRight
 pub mod TraceSteps

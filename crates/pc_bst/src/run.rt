@@ -1,6 +1,8 @@
 //! Running a plan on plain cells: the plan is told what stands in them until it answers or asks for
 //! an exchange, which is then made.
-ghost use Rattle.std.specs.Prelude.{◌≡◌, IfOk, IfErr, OnErr};
+ghost use Rattle.std.specs.Prelude.{◌≡◌, ◌≤◌, IfOk, IfErr, OnErr};
+ghost use Rattle.pc_model.specs.Cells.{FitsWords};
+ghost use Rattle.pc_bst.specs.PlainCells.{cells_of};
 ghost use Rattle.pc_bst.specs.PlainRuns.{HoldsPairs, ComesTo, IsRunOf, RunsRight, ComesToWantSlot, AllInUse, HasPairPerSlot};
 ghost use Rattle.pc_bst.specs.RunEnds.{ask_of};
 
@@ -20,7 +22,9 @@ enum End {
 fn end_of<P: Plan>(cells: &PlainCells, call: P::Call) -> End
     requires call { P.can_call call }
     requires sound { HoldsPairs P.sound cells.now }
-    ensures { ComesTo P.start P.moves cells.now call (ask_of result) }
+    ensures comes { ComesTo P.start P.moves cells.now call (ask_of result) }
+    ensures few { cells.now.slots ≤ 61000 }
+    ensures fits { FitsWords cells.now.slots (cells_of cells.now) }
 {
     let mut plan = P::begin(call);
     let mut told = Told::Begin;

@@ -41,11 +41,11 @@ word-requires g c = (right g (goal.at.word-requires g c).After-next (Visit c.in-
 pub word-requires-in-Read : goal.word-requires-in-Read
 word-requires-in-Read g c = (right g (goal.at.word-requires-in-Read g c).After-next (Read c.in-Read.node c.in-Read.field) c.in-Read.is).1
 
-pub returns-in-Change : goal.returns-in-Change
-returns-in-Change g c = comes g (goal.at.returns-in-Change g c).After-next (Change c.in-Change.change) c.in-Change.is
+pub returns-in-Change-clause-comes : goal.returns-in-Change-clause-comes
+returns-in-Change-clause-comes g c = comes g (goal.at.returns-in-Change-clause-comes g c).After-next (Change c.in-Change.change) c.in-Change.is
 
-pub returns-in-Answer : goal.returns-in-Answer
-returns-in-Answer g c = comes g (goal.at.returns-in-Answer g c).After-next (Answer c.in-Answer.reply) c.in-Answer.is
+pub returns-in-Answer-clause-comes : goal.returns-in-Answer-clause-comes
+returns-in-Answer-clause-comes g c = comes g (goal.at.returns-in-Answer-clause-comes g c).After-next (Answer c.in-Answer.reply) c.in-Answer.is
 
 pub loop-turn-preserved : goal.loop-turn-preserved
 loop-turn-preserved g c =
