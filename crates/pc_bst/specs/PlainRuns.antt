@@ -1,12 +1,12 @@
 -- What a run of a plan on plain cells does to them, and what it answers.
-use Rattle.std.specs.Prelude.{◌≡◌, ℕ, ◌+◌, ◌*◌, ◌%◌, ◌<◌, ◌≤◌, ◌==◌, if◌then◌else◌, List, [], ◌∷◌, ◌++◌, map, length, Option, Some, None, IsSome, IfSome, option_to_list}
+use Rattle.std.specs.Prelude.{◌≡◌, ℕ, ◌+◌, ◌*◌, ◌%◌, ◌<◌, ◌≤◌, ◌==◌, nat_le, ◌&&◌, if◌then◌else◌, List, [], ◌∷◌, ◌++◌, map, length, Option, Some, None, IsSome, IfSome, option_to_list}
 use Rattle.pc_model.specs.declared.call.Call.{Call}
 use Rattle.pc_model.specs.declared.call.Reply.{Reply}
 use Rattle.pc_model.specs.declared.cell.Field.{Field}
 use Rattle.pc_model.specs.declared.cell.Field.TheVariants.{Version as VersionField}
 use Rattle.pc_model.specs.Map.{Pairs}
-use Rattle.pc_model.specs.Cells.{Cells, IsEven, IsSlot, IsNode, written}
-use Rattle.pc_model.specs.Counts.{count}
+use Rattle.pc_model.specs.Cells.{Cells, IsEven, IsSlot, IsNode, written, opening_fields}
+use Rattle.pc_model.specs.Counts.{count, one_if}
 use Rattle.pc_model.specs.Exchanges.{applied, with_fresh}
 use Rattle.pc_bst.specs.declared.change.Add.{Add}
 use Rattle.pc_bst.specs.declared.change.Fresh.{Fresh}
@@ -43,6 +43,14 @@ pub record TakesSlot (fresh : Option Fresh) (old_words new_words old_free new_fr
   pub long : length new_words ≡ length old_words
   pub small : slot < 4294967296
   pub parent : IfSome fresh (λ f. f.parent < 4294967296)
+
+-- the cells of every node from node 0 on are those that a tree opens with
+abbrev pub OpensCells : ℕ → Cells → Type 0
+OpensCells slots c = (n : ℕ) (f : Field) → n ≤ slots + 1 → c n f ≡ opening_fields n f
+
+-- each slot stands in the list once, and nothing else
+abbrev pub HasEachSlot : ℕ → List ℕ → Type 0
+HasEachSlot slots xs = (n : ℕ) → count n xs ≡ one_if (nat_le 2 n && nat_le n (slots + 1))
 
 -- the cells after an exchange whose fresh node takes this slot
 abbrev pub changed_cells : Planned → ℕ → Cells → Cells

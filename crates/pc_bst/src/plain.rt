@@ -3,7 +3,7 @@
 ghost use Rattle.std.specs.Prelude.{◌≡◌, ℕ, ◌+◌, ◌*◌, ◌<◌, ◌≤◌, [], IfOk, IfErr, OnErr, OnOk, IsSome};
 
 use crate::change::Change;
-use crate::words::{give_slot, take_slot, word, write_adds};
+use crate::words::{all_slots, give_slot, opening_words, take_slot, word, write_adds};
 use pc_model::{Field, Memory, Reply};
 use std::alloc::Global;
 use std::marker::Model;
@@ -38,6 +38,18 @@ impl PlainCells {
     ghost use Rattle.pc_model.specs.Cells.{FitsWords};
     ghost use Rattle.pc_bst.specs.PlainCells.{cells_of, AreOpening, IsEmptyTree};
     ghost use Rattle.pc_bst.specs.PlainRuns.{CanMake, IsMade, AllInUse};
+
+    /// Cells of an empty tree with room for so many pairs.
+    pub fn new(alloc: Global, slots: u32) -> Result<PlainCells, Memory>
+        requires { slots ≤ 61000 }
+        ensures slots { IfOk result (λ p. p.slots ≡ slots) }
+        ensures opening { IfOk result AreOpening }
+        ensures empty { IfOk result IsEmptyTree }
+    {
+        let words = opening_words(alloc, slots)?;
+        let free = all_slots(alloc, slots)?;
+        Ok(PlainCells { slots, words, free })
+    }
 
     /// How many slots there are.
     #[inline]

@@ -1,16 +1,21 @@
 //! The words of nodes in one list, eight a node: how one word, a fresh node and the words of an
 //! exchange are written.
-ghost use Rattle.std.specs.Prelude.{◌≡◌, ℕ, ◌+◌, ◌*◌, ◌%◌, ◌^◌, ◌<◌, ◌≤◌, List, [], ◌∷◌, ◌++◌, length, vec_len, vec_capacity, Option, IfSome, IfNone, IsSome, option_to_list};
+ghost use Rattle.std.specs.Prelude.{◌≡◌, ℕ, ◌+◌, ◌*◌, ◌%◌, ◌^◌, ◌<◌, ◌≤◌, List, [], ◌∷◌, ◌++◌, length, vec_len, vec_capacity, Option, IfOk, IfSome, IfNone, IsSome, option_to_list};
 ghost use Rattle.pc_model.specs.Cells.{field_number, written, with_node};
 ghost use Rattle.pc_bst.specs.Runs.{number_at, fresh_fields};
 ghost use Rattle.pc_bst.specs.PlainCells.{cells_in, kept};
-ghost use Rattle.pc_bst.specs.PlainRuns.{with_adds, CanTakeSlot, TakesSlot, ReachWords, AddsReach};
+ghost use Rattle.pc_bst.specs.PlainRuns.{with_adds, CanTakeSlot, TakesSlot, OpensCells, HasEachSlot, ReachWords, AddsReach};
 
 use crate::change::{Add, Fresh, To};
-use pc_model::Field;
+use pc_model::{Field, Memory};
+use std::alloc::Global;
 
 /// From this version on a version is set back.
 const VERSION_LIMIT: u64 = 1152921504606846970;
+
+const SENTINEL: u32 = 1;
+
+const SENTINEL_KEY: u64 = 4611686018427387903;
 
 #[inline]
 fn number_of(field: Field) -> usize
@@ -129,4 +134,36 @@ pub fn give_slot(free: &mut Vec<u32>, mark: Option<u32>)
     if let Some(node) = mark {
         free.push_reserved(node);
     }
+}
+
+/// The words that a tree opens with: the sentinel alone, and every slot out of use.
+pub fn opening_words(alloc: Global, slots: u32) -> Result<Vec<u64>, Memory>
+    requires { slots ≤ 61000 }
+    ensures long { IfOk result (λ v. length v.items ≡ 8 * (slots + 2)) }
+    ensures cells { IfOk result (λ v. OpensCells slots (cells_in v.items)) }
+{
+    let Ok(mut words) = vec![in alloc; 0u64; 8 * (slots as usize + 2)] else {
+        return Err(Memory);
+    };
+    for node in 0..slots + 2 {
+        write(&mut words, node, Field::Version, 1);
+    }
+    write(&mut words, SENTINEL, Field::Version, 0);
+    write(&mut words, SENTINEL, Field::Key, SENTINEL_KEY);
+    Ok(words)
+}
+
+/// A stack of all slots, the least of them last.
+pub fn all_slots(alloc: Global, slots: u32) -> Result<Vec<u32>, Memory>
+    requires { slots ≤ 61000 }
+    ensures counts { IfOk result (λ v. HasEachSlot slots v.items) }
+    ensures room { IfOk result (λ v. vec_capacity v ≡ slots) }
+{
+    let Ok(mut free) = Vec::with_capacity(alloc, slots as usize) else {
+        return Err(Memory);
+    };
+    for pushed in 0..slots {
+        free.push_reserved(slots + 1 - pushed);
+    }
+    Ok(free)
 }
