@@ -3,12 +3,15 @@ pub mod GetLaws
 pub mod Gets
 pub mod Lawful
 pub mod Lawfulness
+pub mod PlainCells
+pub mod PlainRuns
 pub mod PlainTreeLaws
 pub mod PlainTrees
 pub mod Planned
 pub mod PutEnds
 pub mod PutLaws
 pub mod Puts
+pub mod RunEnds
 pub mod Runs
 pub mod Traces
 pub mod WalkCourses

@@ -7,11 +7,16 @@
 
 mod change;
 mod get;
+mod plain;
 mod plan;
 mod put;
+mod run;
 mod walk;
+mod words;
 
 pub use change::{Add, Change, Fresh, To};
 pub use get::BstGet;
+pub use plain::{NoPlainSlot, PlainCells};
 pub use plan::{Ask, Plan, Told};
 pub use put::BstPut;
+pub use run::run_plan;
