@@ -3,3 +3,4 @@ pub mod PartsLemmas
 pub mod ReadLemmas
 pub mod WordsLemmas
 pub mod Rows
+pub mod TextLemmas

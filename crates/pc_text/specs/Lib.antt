@@ -3,3 +3,4 @@ pub mod ScriptValue
 pub mod ScriptWords
 pub mod Script
 pub mod ScriptFacts
+pub mod ScriptText

@@ -13,6 +13,6 @@ mod script;
 mod tests;
 
 pub use kind::ScriptKind;
-pub use laws::empty_input_gives_empty_script;
+pub use laws::{empty_input_gives_empty_script, written_commands_read_back};
 pub use read::read_script;
 pub use script::{Script, ScriptFault};
