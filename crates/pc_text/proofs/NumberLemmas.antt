@@ -9,7 +9,7 @@ use Rattle.std.specs.Char.{digit_value, is_ascii_digit}
 use Rattle.std.specs.List.{list_all}
 use Rattle.std.specs.Str.Parse.{digits_value}
 
-tells_list_all : IsDigitsTest (λ ds. list_all is_ascii_digit ds ≡ true)
+pub tells_list_all : IsDigitsTest (λ ds. list_all is_ascii_digit ds ≡ true)
 tells_list_all = search rules
 
 -- the number of a word of few digits is small

@@ -15,7 +15,7 @@ use Rattle.pc_text.specs.ScriptValue.{ScriptValue}
 use Rattle.pc_text.specs.ScriptWords.{class_of}
 
 -- a line stands before another part
-classes_of_parts-more : (line : List ℕ) (parts : List (List ℕ)) → 0 < length parts → classes_of_parts (line ∷ parts) ≡ class_of line ∷ classes_of_parts parts
+pub classes_of_parts-more : (line : List ℕ) (parts : List (List ℕ)) → 0 < length parts → classes_of_parts (line ∷ parts) ≡ class_of line ∷ classes_of_parts parts
 classes_of_parts-more line [] some = absurd (omega arith)
 classes_of_parts-more line (next ∷ parts) some = refl
 

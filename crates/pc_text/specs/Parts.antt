@@ -9,4 +9,5 @@ parts_of cut bytes = slice_split (λ byte. byte == cut) bytes
 -- where the first part ends, if another part follows it
 abbrev pub EndsFirstPart : ℕ → List ℕ → Option ℕ → Type 0
 EndsFirstPart cut bytes None = parts_of cut bytes ≡ bytes ∷ []
-EndsFirstPart cut bytes (Some end) = (end < length bytes) × (parts_of cut bytes ≡ take end bytes ∷ parts_of cut (drop (end + 1) bytes))
+EndsFirstPart cut bytes (Some end) =
+    (end < length bytes) × (parts_of cut bytes ≡ take end bytes ∷ parts_of cut (drop (end + 1) bytes))

@@ -26,13 +26,14 @@ classes_of_parts (line ∷ next ∷ parts) = class_of line ∷ classes_of_parts 
 abbrev pub classes_of : List ℕ → List LineClass
 classes_of bytes = classes_of_parts (parts_of 10 bytes)
 
--- the first bad line with what is wrong, where the lines are counted from `line` and so many commands
--- stood before: the 60,001st command is bad
+-- the first bad line with what is wrong, where the lines are counted on from `line` and `before` commands
+-- stood before it: the 60,001st command is bad
 abbrev pub first_bad : ℕ → ℕ → List LineClass → Option (ℕ × ScriptKind)
 first_bad line before [] = None
 first_bad line before (Skip ∷ more) = first_bad (line + 1) before more
 first_bad line before (Turn client ∷ more) = first_bad (line + 1) before more
-first_bad line before (Command call ∷ more) = if nat_lt before 60000 then first_bad (line + 1) (before + 1) more else Some (line, TooManyLines)
+first_bad line before (Command call ∷ more) =
+    if nat_lt before 60000 then first_bad (line + 1) (before + 1) more else Some (line, TooManyLines)
 first_bad line before (Bad kind ∷ more) = Some (line, kind)
 
 -- how many clients there are: client 1, and those up to the last that has a turn
@@ -48,12 +49,14 @@ abbrev pub calls_of : ℕ → ℕ → List LineClass → List Call
 calls_of client turn [] = []
 calls_of client turn (Skip ∷ more) = calls_of client turn more
 calls_of client turn (Turn next ∷ more) = calls_of client next more
-calls_of client turn (Command call ∷ more) = if client == turn then call ∷ calls_of client turn more else calls_of client turn more
+calls_of client turn (Command call ∷ more) =
+    if client == turn then call ∷ calls_of client turn more else calls_of client turn more
 calls_of client turn (Bad kind ∷ more) = calls_of client turn more
 
 -- the script of lines of which none is bad: client 1 has the first turn
 abbrev pub script_of_classes : List LineClass → ScriptValue
-script_of_classes lines = record { clients = clients_of lines; calls = map (λ client. calls_of client 1 lines) (range_with_len 1 (clients_of lines)) }
+script_of_classes lines =
+    record { clients = clients_of lines; calls = map (λ client. calls_of client 1 lines) (range_with_len 1 (clients_of lines)) }
 
 abbrev pub script_unless : Option (ℕ × ScriptKind) → ScriptValue → Result ScriptValue (ℕ × ScriptKind)
 script_unless None script = Ok script
@@ -61,4 +64,5 @@ script_unless (Some fault) script = Err fault
 
 -- the script that bytes spell, or the first bad line, counted from 1, with what is wrong
 abbrev pub script_of : List ℕ → Result ScriptValue (ℕ × ScriptKind)
-script_of bytes = script_unless (first_bad 1 0 (classes_of bytes)) (script_of_classes (classes_of bytes))
+script_of bytes =
+    script_unless (first_bad 1 0 (classes_of bytes)) (script_of_classes (classes_of bytes))

@@ -16,7 +16,9 @@ mod script;
 
 pub use fault::{Fault, print_fault};
 pub use kind::ScriptKind;
-pub use laws::empty_input_gives_empty_script;
+pub use laws::{
+    empty_input_gives_empty_script, printed_run_fixes_history, written_commands_read_back,
+};
 pub use print::{Extras, ShapeLine, print_run};
 pub use read::read_script;
 pub use script::{Script, ScriptFault};

@@ -25,7 +25,8 @@ pub fn read_number(word: &[u8]) -> Option<u64>
 // The number that up to eighteen bytes spell in tens, if they are digits.
 fn value_of_digits(word: &[u8]) -> Option<u64>
     requires { length word.now ≤ 18 }
-    ensures value { result ≡ (if list_all is_ascii_digit word.now then Some (digits_value 10 word.now) else None) }
+    ensures value { result ≡
+        (if list_all is_ascii_digit word.now then Some (digits_value 10 word.now) else None) }
     ensures in_range { IfSome result (λ n. n ≤ 999999999999999999) }
 {
     let mut value = 0;

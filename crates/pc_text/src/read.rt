@@ -36,7 +36,8 @@ pub fn read_script(alloc: Global, bytes: &[u8]) -> Result<Script, ScriptFault>
 
 // The commands of the lines, in their order.
 fn read_calls(alloc: Global, bytes: &[u8]) -> Result<Vec<Call>, ScriptFault>
-    ensures script { IfOk result (λ calls. script_of bytes.now ≡ Ok (record { clients = 1; calls = calls.items ∷ [] })) }
+    ensures script { IfOk result
+        (λ calls. script_of bytes.now ≡ Ok (record { clients = 1; calls = calls.items ∷ [] })) }
     ensures not_built { result ≡ Err ScriptFault.NotBuilt → IsErr (script_of bytes.now) }
     ensures few { IfOk result (λ calls. vec_len calls ≤ 60000) }
     ensures in_range { IfOk result (λ calls. All IsCallInRange calls.items) }
