@@ -1,2 +1,3 @@
 pub mod Printed
 pub mod FaultLine
+pub mod FixesHistory

@@ -3,10 +3,12 @@
 #![tactic(auto)]
 
 mod fault;
+mod laws;
 mod pieces;
 mod print;
 
 pub use fault::{Fault, ScriptKind, print_fault};
+pub use laws::printed_run_fixes_history;
 pub use print::{Extras, ShapeLine, print_run};
 
 #[cfg(test)]
