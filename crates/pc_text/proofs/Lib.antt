@@ -2,6 +2,7 @@ pub mod Lines
 pub mod NumberLemmas
 pub mod PartsLemmas
 pub mod ReadLemmas
+pub mod Readable
 pub mod Rows
 pub mod TextLemmas
 pub mod WordsLemmas

@@ -1,4 +1,5 @@
 pub mod FaultLine
+pub mod FixesHistory
 pub mod Parts
 pub mod Printed
 pub mod Script

@@ -58,6 +58,7 @@ fn a_run_to_a_full_sink_fails(rt: HostRuntime) -> Result<(), Fail> {
         Err(Failed)
     );
     assert_eq!(rt; short.held.as_slice(), b"1 1.1 put ".as_slice());
+    printed_run_fixes_history();
     Ok(())
 }
 
