@@ -3,5 +3,6 @@
 #![tactic(auto)]
 
 mod reading;
+mod running;
 
 fn main() {}

@@ -5,6 +5,7 @@ pub mod HolePairs
 pub mod Holes
 pub mod MapLawProofs
 pub mod Replaying
+pub mod Sizes
 pub mod SortedLists
 pub mod Soundness
 pub mod Worked

@@ -1,0 +1,89 @@
+//! Running the calls of one client, one after another, on plain cells.
+ghost use Rattle.std.specs.Prelude.{◌≡◌, ◌+◌, ◌≤◌, ◌∷◌, [], length, All, IfOk};
+ghost use Rattle.pc_text.specs.ScriptFacts.{IsCallInRange, IsPutOrGet};
+ghost use Rattle.pc_bst.specs.PlainCells.{IsEmptyTree};
+ghost use Rattle.pathmap.specs.Running.{IsOneHistory, HasRoom, AnswersAs, HasRun};
+
+use pc_bst::{BstGet, BstPut, PlainCells, run_plan};
+use pc_model::{Call, Entry, Memory, Reply};
+use std::alloc::Global;
+
+/// What a run leaves: its history, and the pairs of the map by rising key.
+#[derive(Drop)]
+pub struct Run {
+    pub history: Vec<Entry>,
+    pub pairs: Vec<(u64, u64)>,
+}
+
+// Runs the calls on an empty tree that has a slot for each and one more.
+fn run_calls(alloc: Global, cells: &mut PlainCells, calls: &[Call]) -> Result<Vec<Entry>, Memory>
+    requires empty { IsEmptyTree cells.old }
+    requires size { cells.old.slots ≡ length calls.now + 1 }
+    requires few { length calls.now ≤ 60000 }
+    requires in_range { All IsCallInRange calls.now }
+    requires plain { All IsPutOrGet calls.now }
+    ensures { IfOk result (λ history. HasRun cells.old.slots calls.now cells.new history.items) }
+{
+    let Ok(mut history) = Vec::with_capacity(alloc, calls.len()) else {
+        return Err(Memory);
+    };
+    for (i, call) in calls.iter().enumerate() {
+        let reply = answer(cells, *call);
+        history.push_reserved(entry_of(i, *call, reply));
+    }
+    Ok(history)
+}
+
+// The entry of the call at a place, from 0, of client 1.
+fn entry_of(place: usize, call: Call, reply: Reply) -> Entry
+    requires { place < 60000 }
+    ensures { result ≡ record { pass = 1; number = place + 1; call = call; reply = reply; stamp = place + 1 } }
+{
+    Entry {
+        pass: 1,
+        number: place as u32 + 1,
+        call,
+        reply,
+        stamp: place as u64 + 1,
+    }
+}
+
+// Runs a call on a tree that has a slot left.
+fn answer(cells: &mut PlainCells, call: Call) -> Reply
+    requires room { HasRoom cells.old }
+    requires in_range { IsCallInRange call }
+    requires plain { IsPutOrGet call }
+    ensures right { AnswersAs call cells.old cells.new result }
+    ensures size { cells.new.slots ≡ cells.old.slots }
+{
+    match call {
+        Call::Put { key, value } => put(cells, key, value),
+        Call::Get { key } => get(cells, key),
+        Call::Remove { .. } | Call::Ceil { .. } | Call::Floor { .. } => unreachable!(),
+    }
+}
+
+fn put(cells: &mut PlainCells, key: u64, value: u64) -> Reply
+    requires room { HasRoom cells.old }
+    requires key { key ≤ 999999999999999999 }
+    requires value { value ≤ 999999999999999999 }
+    ensures right { AnswersAs (Call.Put key value) cells.old cells.new result }
+    ensures size { cells.new.slots ≡ cells.old.slots }
+{
+    match run_plan::<BstPut>(cells, (key, value)) {
+        Ok(reply) => reply,
+        Err(_) => unreachable!(),
+    }
+}
+
+fn get(cells: &mut PlainCells, key: u64) -> Reply
+    requires room { HasRoom cells.old }
+    requires key { key ≤ 999999999999999999 }
+    ensures right { AnswersAs (Call.Get key) cells.old cells.new result }
+    ensures size { cells.new.slots ≡ cells.old.slots }
+{
+    match run_plan::<BstGet>(cells, key) {
+        Ok(reply) => reply,
+        Err(_) => unreachable!(),
+    }
+}
