@@ -1,5 +1,5 @@
 //! Running the calls of one client, one after another, on plain cells.
-ghost use Rattle.std.specs.Prelude.{◌≡◌, ◌+◌, ◌≤◌, ◌∷◌, [], length, All, IfOk};
+ghost use Rattle.std.specs.Prelude.{◌≡◌, ◌+◌, ◌<◌, ◌≤◌, ◌∷◌, [], length, All, IfOk};
 ghost use Rattle.pc_text.specs.ScriptFacts.{IsCallInRange, IsPutOrGet};
 ghost use Rattle.pc_bst.specs.PlainCells.{IsEmptyTree};
 ghost use Rattle.pathmap.specs.Running.{IsOneHistory, HasRoom, AnswersAs, HasRun};

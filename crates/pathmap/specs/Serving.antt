@@ -1,0 +1,106 @@
+-- How a run of the program ends: what was printed where it ended well, and why where it didn't.
+use Rattle.std.specs.Prelude.{◌≡◌, ◌≢◌, ℕ, ◌<◌, ◌≤◌, ◌⊎◌, List, length, Option, Result, Ok, IsErr, IfSome}
+use Rattle.std.specs.Io.KnownBytes.{Appends, IsAtEnd}
+use Rattle.pc_model.specs.declared.call.Entry.{Entry}
+use Rattle.pc_model.specs.Map.{Pairs}
+use Rattle.pc_edge.specs.Faults.{HasRisen}
+use Rattle.pc_edge.specs.Sending.{AppendsFront}
+use Rattle.pc_text.specs.declared.fault.Fault.{Fault}
+use Rattle.pc_text.specs.declared.fault.Fault.TheVariants.{Usage, Script, Read, TooLargeInput, TooManySlots, Slots, Numbers, Memory, NotBuilt}
+use Rattle.pc_text.specs.FaultLine.{fault_line}
+use Rattle.pc_text.specs.Printed.{printed_run}
+use Rattle.pc_text.specs.Script.{script_of}
+use Rattle.pc_text.specs.ScriptValue.{ScriptValue}
+use Rattle.pathmap.specs.declared.reading.Unread.{Unread}
+use Rattle.pathmap.specs.declared.reading.Unread.TheVariants.{Failed, TooLarge, Memory as NoMemory}
+use Rattle.pathmap.specs.Running.{IsOneHistory}
+
+-- the bytes are an input that spells a script, or none
+abbrev pub SpellsScript : List ℕ → ScriptValue → Type 0
+SpellsScript bytes script = (length bytes ≤ 4194304) × (script_of bytes ≡ Ok script)
+
+abbrev pub SpellsNone : List ℕ → Type 0
+SpellsNone bytes = (4194304 < length bytes) ⊎ IsErr (script_of bytes)
+
+-- the input was read to its end and spells a script, of which this is one history with the pairs left
+pub record HasRunAll (input rest : Option (List ℕ)) (history : List Entry) (pairs : Pairs) : Type 0 where
+  pub script : ScriptValue
+  pub spelled : IfSome input (λ bytes. SpellsScript bytes script)
+  pub at_end : IsAtEnd rest
+  pub one : IsOneHistory script.calls history pairs
+
+-- what the sink holds is what it held before and one history of all clients with the pairs that are left
+pub record PrintsOneHistory (input rest held held' : Option (List ℕ)) : Type 0 where
+  pub history : List Entry
+  pub pairs : Pairs
+  pub run : HasRunAll input rest history pairs
+  pub printed : Appends held held' (printed_run history pairs)
+
+-- a front of that was written before the sink failed
+pub record PrintsFront (input rest held held' : Option (List ℕ)) : Type 0 where
+  pub history : List Entry
+  pub pairs : Pairs
+  pub run : HasRunAll input rest history pairs
+  pub front : AppendsFront held held' (printed_run history pairs)
+
+-- the status of each fault
+abbrev pub status_of : Fault → ℕ
+status_of Usage = 2
+status_of (Script line kind) = 3
+status_of Read = 4
+status_of TooLargeInput = 6
+status_of TooManySlots = 6
+status_of (Slots client number) = 7
+status_of (Numbers counter) = 8
+status_of Memory = 9
+status_of NotBuilt = 3
+
+-- why a run ends in a fault: there isn't exactly one word, the input spells no script, or the source
+-- failed; want of memory needs no cause, and the other faults don't come
+abbrev pub IsCauseOf : ℕ → Option (List ℕ) → ℕ → ℕ → Fault → Type 0
+IsCauseOf words input faults faults' Usage = words ≢ 1
+IsCauseOf words input faults faults' NotBuilt = (words ≡ 1) × IfSome input SpellsNone
+IsCauseOf words input faults faults' Read = (words ≡ 1) × HasRisen faults faults'
+IsCauseOf words input faults faults' Memory = words ≡ 1
+IsCauseOf words input faults faults' (Script line kind) = ⊥
+IsCauseOf words input faults faults' TooLargeInput = ⊥
+IsCauseOf words input faults faults' TooManySlots = ⊥
+IsCauseOf words input faults faults' (Slots client number) = ⊥
+IsCauseOf words input faults faults' (Numbers counter) = ⊥
+
+-- the fault's line was written, whole or up to where the sink failed
+abbrev pub WritesFault : Option (List ℕ) → Option (List ℕ) → ℕ → ℕ → Fault → Type 0
+WritesFault held held' faults faults' fault = Appends held held' (fault_line fault) ⊎ (AppendsFront held held' (fault_line fault) × HasRisen faults faults')
+
+-- the run ended in a fault that has its cause, with its status and its line
+pub record EndsInFault (status words : ℕ) (input : Option (List ℕ)) (source_faults source_faults' : ℕ) (held held' : Option (List ℕ)) (sink_faults sink_faults' : ℕ) : Type 0 where
+  pub fault : Fault
+  pub status_is : status ≡ status_of fault
+  pub cause : IsCauseOf words input source_faults source_faults' fault
+  pub line : WritesFault held held' sink_faults sink_faults' fault
+
+-- where the input spells no script, the run ends for that, for a failed read or for want of memory
+abbrev pub IsRefusedInput : ℕ → Type 0
+IsRefusedInput status = (status ≡ 3) ⊎ ((status ≡ 4) ⊎ (status ≡ 9))
+
+-- the bytes spell a script, of which this is one history with the pairs left
+pub record RunsBytes (bytes : List ℕ) (history : List Entry) (pairs : Pairs) : Type 0 where
+  pub script : ScriptValue
+  pub spelled : script_of bytes ≡ Ok script
+  pub one : IsOneHistory script.calls history pairs
+
+-- why bytes are not run: they spell no script, or memory was wanting
+abbrev pub IsBytesFault : List ℕ → Fault → Type 0
+IsBytesFault bytes NotBuilt = IsErr (script_of bytes)
+IsBytesFault bytes Memory = Unit {0}
+IsBytesFault bytes _ = ⊥
+
+abbrev pub unread_fault : Unread → Fault
+unread_fault Failed = Read
+unread_fault TooLarge = NotBuilt
+unread_fault NoMemory = Memory
+
+-- status 0 where the run was printed whole, and 5 where the sink failed before
+abbrev pub PrintsOrStops : Option (List ℕ) → Option (List ℕ) → ℕ → ℕ → List Entry → Pairs → ℕ → Type 0
+PrintsOrStops held held' faults faults' history pairs status = ((status ≡ 0) × Appends held held' (printed_run history pairs))
+    ⊎ ((status ≡ 5) × AppendsFront held held' (printed_run history pairs) × HasRisen faults faults')
