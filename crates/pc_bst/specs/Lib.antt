@@ -1,5 +1,6 @@
 pub mod Lawful
 pub mod PlainCells
+pub mod PlainPairs
 pub mod PlainRuns
 pub mod Planned
 pub mod RunEnds

@@ -9,10 +9,12 @@ mod change;
 mod plain;
 mod plan;
 mod run;
+mod tree_pairs;
 mod walk;
 mod words;
 
 pub use change::{Add, Change, Fresh, To};
+pub use tree_pairs::pairs;
 pub use plain::{NoPlainSlot, PlainCells};
 pub use plan::{Ask, Plan, Told};
 pub use run::run_plan;

@@ -50,14 +50,13 @@ returns-in-Answer-clause-comes g c = comes g (goal.at.returns-in-Answer-clause-c
 pub loop-turn-preserved : goal.loop-turn-preserved
 loop-turn-preserved g c =
     let b : After-next g = (goal.at.loop-turn-preserved g c).After-next in
-    let Come : Told → Type 0 = λ t. HasCome g.P.Plan.start g.P.Plan.moves (cells_of c.args.cells.now) c.args.call c.next.new.self t (c.loop-turn._turn + 1) in
     elim c.match-next.branch [
       in-Visit w ↦
         let even : IsEven (cells_of c.args.cells.now w.in-Visit.node VersionField) = (right g b (Visit w.in-Visit.node) w.in-Visit.is).1 in
-        let told : Tells (cells_of c.args.cells.now) (Visit w.in-Visit.node) (Version w.word.result) = (sym w.word.ensures, subst IsEven (sym w.word.ensures) even) in
-        subst Come (sym w.told-is) (further g b (Visit w.in-Visit.node) (Version w.word.result) w.in-Visit.is told)
+        let told : Tells (cells_of c.args.cells.now) (Visit w.in-Visit.node) (Version w.word.result) = (sym w.word.ensures, rw w.word.ensures even) in
+        rw w.told-is (further g b (Visit w.in-Visit.node) (Version w.word.result) w.in-Visit.is told)
     | in-Read w ↦
-        subst Come (sym w.told-is) (further g b (Read w.in-Read.node w.in-Read.field) (Number w.word-in-Read.result) w.in-Read.is (sym w.word-in-Read.ensures))
+        rw w.told-is (further g b (Read w.in-Read.node w.in-Read.field) (Number w.word-in-Read.result) w.in-Read.is (sym w.word-in-Read.ensures))
     ]
 
 pub unreachable-requires : goal.unreachable-requires
