@@ -9,6 +9,8 @@ mod change;
 mod plain;
 mod plan;
 mod run;
+#[cfg(test)]
+mod plain_tests;
 mod tree_pairs;
 mod walk;
 mod words;
