@@ -4,7 +4,7 @@ ghost use Rattle.pc_text.specs.ScriptFacts.{IsCallInRange, IsPutOrGet};
 ghost use Rattle.pc_bst.specs.PlainCells.{IsEmptyTree};
 ghost use Rattle.pathmap.specs.Running.{IsOneHistory, HasRoom, AnswersAs, HasRun};
 
-use pc_bst::{BstGet, BstPut, PlainCells, run_plan};
+use pc_bst::{BstGet, BstPut, PlainCells, pairs, run_plan};
 use pc_model::{Call, Entry, Memory, Reply};
 use std::alloc::Global;
 
@@ -13,6 +13,19 @@ use std::alloc::Global;
 pub struct Run {
     pub history: Vec<Entry>,
     pub pairs: Vec<(u64, u64)>,
+}
+
+/// Runs the calls of client 1 on a map of its own.
+pub fn run_alone(alloc: Global, calls: &[Call]) -> Result<Run, Memory>
+    requires few { length calls.now ≤ 60000 }
+    requires in_range { All IsCallInRange calls.now }
+    requires plain { All IsPutOrGet calls.now }
+    ensures { IfOk result (λ run. IsOneHistory (calls.now ∷ []) run.history.items run.pairs.items) }
+{
+    let mut cells = PlainCells::new(alloc, calls.len() as u32 + 1)?;
+    let history = run_calls(alloc, &mut cells, calls)?;
+    let pairs = pairs(alloc, &cells)?;
+    Ok(Run { history, pairs })
 }
 
 // Runs the calls on an empty tree that has a slot for each and one more.

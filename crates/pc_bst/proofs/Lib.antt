@@ -1,5 +1,6 @@
 pub mod FreeSlots
 pub mod KeptCells
+pub mod Listing
 pub mod Making
 pub mod Opening
 pub mod RunRight

@@ -20,6 +20,12 @@ agrees_more : {P : Type 0} (moves : P → Told → P × Ask) (c : Cells) (s : P 
 agrees_more moves c s [] t agrees tells = (tells, tt)
 agrees_more moves c s (u ∷ ts) t agrees tells = (agrees.0, agrees_more moves c (moves s.0 u) ts t agrees.1 tells)
 
+pub told_version : (c : Cells) (n v : ℕ) → v ≡ c n VersionField → IsEven (c n VersionField) → Tells c (Visit n) (Version v)
+told_version c n v e even = (sym e, rw e even)
+
+pub told_number : (c : Cells) (n : ℕ) (f : Field) (x : ℕ) → x ≡ c n f → Tells c (Read n f) (Number x)
+told_number c n f x e = sym e
+
 -- a trace that agrees with the cells leads to where the plan is about to be told something
 pub record HasCome {P C : Type 0} (start : C → P) (moves : P → Told → P × Ask) (c : Cells) (call : C) (plan : P) (told : Told) (turn : ℕ) : Type 0 where
   pub trace : List Told

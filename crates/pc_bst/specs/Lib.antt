@@ -4,6 +4,7 @@ pub mod Gets
 pub mod Lawful
 pub mod Lawfulness
 pub mod PlainCells
+pub mod PlainPairs
 pub mod PlainRuns
 pub mod PlainTreeLaws
 pub mod PlainTrees

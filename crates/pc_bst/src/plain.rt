@@ -65,7 +65,8 @@ impl PlainCells {
     #[inline]
     pub(crate) fn word(&self, node: u32, field: Field) -> u64
         requires { node ≤ self.now.slots + 1 }
-        ensures { result ≡ cells_of self.now node field }
+        ensures value { result ≡ cells_of self.now node field }
+        ensures few { self.now.slots ≤ 61000 }
     {
         word(&self.words, node, field)
     }

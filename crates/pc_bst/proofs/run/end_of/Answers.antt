@@ -10,7 +10,7 @@ use Rattle.pc_bst.specs.Runs.{IsRightAsk, past_of}
 use Rattle.pc_bst.specs.Traces.{Tells}
 use Rattle.pc_bst.specs.PlainCells.{cells_of}
 use Rattle.pc_bst.specs.PlainRuns.{ComesTo}
-use Rattle.pc_bst.proofs.TraceSteps.{HasCome, come_at_first, come_further, ask_reached, ask_right, ends_before}
+use Rattle.pc_bst.proofs.TraceSteps.{HasCome, come_at_first, come_further, ask_reached, ask_right, ends_before, told_version, told_number}
 use Rattle.pc_bst.proofs.run.end_of.Given.{Over}
 use Rattle.pc_bst.proofs.run.end_of.Goals as goal
 use Rattle.pc_bst.proofs.run.end_of.Goals.{After-next, in-Visit, in-Read}
@@ -50,14 +50,13 @@ returns-in-Answer-clause-comes g c = comes g (goal.at.returns-in-Answer-clause-c
 pub loop-turn-preserved : goal.loop-turn-preserved
 loop-turn-preserved g c =
     let b : After-next g = (goal.at.loop-turn-preserved g c).After-next in
-    let Come : Told → Type 0 = λ t. HasCome g.P.Plan.start g.P.Plan.moves (cells_of c.args.cells.now) c.args.call c.next.new.self t (c.loop-turn._turn + 1) in
     elim c.match-next.branch [
       in-Visit w ↦
-        let even : IsEven (cells_of c.args.cells.now w.in-Visit.node VersionField) = (right g b (Visit w.in-Visit.node) w.in-Visit.is).1 in
-        let told : Tells (cells_of c.args.cells.now) (Visit w.in-Visit.node) (Version w.word.result) = (sym w.word.ensures, subst IsEven (sym w.word.ensures) even) in
-        subst Come (sym w.told-is) (further g b (Visit w.in-Visit.node) (Version w.word.result) w.in-Visit.is told)
+        rw w.told-is (further g b (Visit w.in-Visit.node) (Version w.word.result) w.in-Visit.is
+          (told_version (cells_of c.args.cells.now) w.in-Visit.node w.word.result w.word.ensures.value (right g b (Visit w.in-Visit.node) w.in-Visit.is).1))
     | in-Read w ↦
-        subst Come (sym w.told-is) (further g b (Read w.in-Read.node w.in-Read.field) (Number w.word-in-Read.result) w.in-Read.is (sym w.word-in-Read.ensures))
+        rw w.told-is (further g b (Read w.in-Read.node w.in-Read.field) (Number w.word-in-Read.result) w.in-Read.is
+          (told_number (cells_of c.args.cells.now) w.in-Read.node w.in-Read.field w.word-in-Read.result w.word-in-Read.ensures.value))
     ]
 
 pub unreachable-requires : goal.unreachable-requires
