@@ -47,7 +47,7 @@ one_more slots calls w w' history call r place h answers size at =
       right = right_push [] history e h.right answered.0;
       tree = subst (IsPlainTree w'.slots (cells_of w')) (sym fold) answered.1;
       few = omega arith;
-      size = size ∙ h.size
+      size = size ∙ h.size;
     }
 
 -- in the end the run is one history of all the calls
@@ -56,5 +56,5 @@ whole_run slots calls w history ps h left = record {
   of_script = one_client_history calls history h.own h.numbered h.in_order;
   right = h.right;
   left = left;
-  rising = subst IsRising (sym left) h.tree.rising
+  rising = subst IsRising (sym left) h.tree.rising;
 }

@@ -2,12 +2,15 @@
 ghost use Rattle.std.specs.Prelude.{◌≡◌, ◌≢◌, ◌≤◌, length, IfSome, IfOk, IfErr, OnErr};
 ghost use Rattle.pathmap.specs.Reading.{TakesAtMost};
 ghost use Rattle.pathmap.specs.Serving.{PrintsOneHistory, PrintsFront, EndsInFault, IsCauseOf, HasRunAll, WritesFault, SpellsNone, IsRefusedInput, status_of, RunsBytes, IsBytesFault, unread_fault, PrintsOrStops};
+ghost use Rattle.pathmap.specs.Running.{IsOneHistory};
 ghost use Rattle.pc_edge.specs.Faults.{HasRisen};
+ghost use Rattle.pc_text.specs.ScriptFacts.{AreFew, AreInRange, ArePutsAndGets};
 
 use crate::reading::{Unread, read_all};
 use crate::running::{Run, run_alone};
 use pc_edge::{Gate, Sink, Source};
-use pc_text::{Extras, Fault, ScriptFault, print_fault, print_run, read_script};
+use pc_model::{Call, Memory};
+use pc_text::{Extras, Fault, Script, ScriptFault, print_fault, print_run, read_script};
 use std::alloc::Global;
 use std::sync::Wait;
 use std::thread::Threads;
@@ -96,10 +99,22 @@ fn run_bytes(alloc: Global, bytes: &[u8]) -> Result<Run, Fault>
         Err(ScriptFault::NotBuilt) => return Err(Fault::NotBuilt),
         Err(ScriptFault::Memory) => return Err(Fault::Memory),
     };
-    match run_alone(alloc, &script.calls[0]) {
+    match run_script(alloc, &script) {
         Ok(run) => Ok(run),
         Err(_) => Err(Fault::Memory),
     }
+}
+
+// Runs a script of one client.
+fn run_script(alloc: Global, script: &Script) -> Result<Run, Memory>
+    requires one_list { length script.now.calls ≡ 1 }
+    requires few { AreFew script.now.calls }
+    requires in_range { AreInRange script.now.calls }
+    requires plain { ArePutsAndGets script.now.calls }
+    ensures { IfOk result (λ run. IsOneHistory script.now.calls run.history.items run.pairs.items) }
+{
+    let calls: &[Call] = &script.calls[0];
+    run_alone(alloc, calls)
 }
 
 fn print<K: Sink>(sink: &mut K, run: &Run) -> u8

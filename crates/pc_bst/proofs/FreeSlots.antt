@@ -30,7 +30,7 @@ pub takes_slot : (wanted : Option Fresh) (fresh : Fresh) (old_words new_words ol
 takes_slot wanted fresh old_words new_words old_free new_free slot version e taken v below cells long small parent =
     let c : Cells = cells_in old_words in
     let here : kept_cells (with_fresh (fresh_at slot version (Some fresh)) c) ≡ cells_in new_words
-      = kept_node slot (fresh_fields version fresh) c ∙ ap (λ (d : Cells). with_fresh (Some (record { node = slot; fields = λ f. kept f (fresh_fields version fresh f) })) d) (kept_same c below) ∙ sym cells in
+    = kept_node slot (fresh_fields version fresh) c ∙ ap (λ (d : Cells). with_fresh (Some (record { node = slot; fields = λ f. kept f (fresh_fields version fresh f) })) d) (kept_same c below) ∙ sym cells in
     let at : TakesSlot (Some fresh) old_words new_words old_free new_free slot
-      = record { taken = taken; cells = sym (subst (λ (x : ℕ). kept_cells (with_fresh (fresh_at slot x (Some fresh)) c) ≡ cells_in new_words) v here); long = long; small = small; parent = parent } in
+    = record { taken = taken; cells = sym (subst (λ (x : ℕ). kept_cells (with_fresh (fresh_at slot x (Some fresh)) c) ≡ cells_in new_words) v here); long = long; small = small; parent = parent } in
     subst (λ (o : Option Fresh). TakesSlot o old_words new_words old_free new_free slot) (sym e) at

@@ -49,7 +49,7 @@ module _ {P C : Type 0} (start : C → P) (moves : P → Told → P × Ask) (c :
           trace = come.trace ++ t ∷ [];
           agrees = agrees_more moves c s come.trace t come.agrees (subst (λ (a : Ask). Tells c a t) (sym ask_reached) tells);
           leads = ap (λ (p : P). moves p t) (sym state) ∙ sym (after_more moves s come.trace t);
-          long = length-append come.trace (t ∷ []) ∙ ap (λ (n : ℕ). n + 1) come.long
+          long = length-append come.trace (t ∷ []) ∙ ap (λ (n : ℕ). n + 1) come.long;
         }
 
     module _ (can_call : C → Type 0) (call_of : C → Option Call) (sound : ℕ → Cells → Pairs → Type 0) (runs : Runs start moves can_call call_of sound) (slots : ℕ) (ps : Pairs)

@@ -8,19 +8,19 @@
 mod change;
 mod get;
 mod plain;
+#[cfg(test)]
+mod plain_tests;
 mod plan;
 mod put;
 mod run;
-#[cfg(test)]
-mod plain_tests;
 mod tree_pairs;
 mod walk;
 mod words;
 
 pub use change::{Add, Change, Fresh, To};
 pub use get::BstGet;
-pub use tree_pairs::pairs;
 pub use plain::{NoPlainSlot, PlainCells};
 pub use plan::{Ask, Plan, Told};
 pub use put::BstPut;
 pub use run::run_plan;
+pub use tree_pairs::pairs;

@@ -8,7 +8,7 @@ returns-in_err-count-clause-few g c =
     let same : length c.turns.bytes.items ≡ vec_len c.turns.bytes = h.same in
     let small : vec_len c.turns.bytes ≤ 4194304 = h.small in
     takes_at_most_more (g.S.Source.left c.args.source.now) (g.S.Source.left c.turns.source) (g.S.Source.left c.read_piece.new.source) c.turns.bytes.items
-        (4194305 - vec_len c.turns.bytes) 4194305 h.takes (omega arith) c.read_piece.ensures.few
+    (4194305 - vec_len c.turns.bytes) 4194305 h.takes (omega arith) c.read_piece.ensures.few
 
 pub returns-then-len-gt-LIMIT-clause-few : goal.returns-then-len-gt-LIMIT-clause-few
 returns-then-len-gt-LIMIT-clause-few g c =
@@ -16,4 +16,4 @@ returns-then-len-gt-LIMIT-clause-few g c =
     let same : length c.turns.bytes.items ≡ vec_len c.turns.bytes = h.same in
     let small : vec_len c.turns.bytes ≤ 4194304 = h.small in
     takes_at_most_more (g.S.Source.left c.args.source.now) (g.S.Source.left c.turns.source) (g.S.Source.left c.read_piece.new.source) c.turns.bytes.items
-        (4194305 - vec_len c.turns.bytes) 4194305 h.takes (omega arith) c.read_piece.ensures.few
+    (4194305 - vec_len c.turns.bytes) 4194305 h.takes (omega arith) c.read_piece.ensures.few

@@ -18,12 +18,12 @@ loop-i-preserved c =
     let inside : i < length calls = c.loop-i-test.true in
     let place : length c.loop-i.history.items ≡ i = as_long c.args.cells.now.slots (take i calls) c.loop-i.cells c.loop-i.history.items before ∙ length-take-le i calls (omega arith) in
     let after : HasRun c.args.cells.now.slots (take i calls ++ (call ∷ [])) c.answer-reply.new.cells (c.loop-i.history.items ++ (entry_at i call c.answer-reply.result ∷ [])) =
-        one_more c.args.cells.now.slots (take i calls) c.loop-i.cells c.answer-reply.new.cells c.loop-i.history.items call c.answer-reply.result i before c.answer-reply.ensures.right c.answer-reply.ensures.size place in
+    one_more c.args.cells.now.slots (take i calls) c.loop-i.cells c.answer-reply.new.cells c.loop-i.history.items call c.answer-reply.result i before c.answer-reply.ensures.right c.answer-reply.ensures.size place in
     let history : c.loop-i.history.items ++ (entry_at i call c.answer-reply.result ∷ []) ≡ c.push_reserved.new.self.items =
-        ap (λ (e : Entry). c.loop-i.history.items ++ (e ∷ [])) (sym c.entry_of.ensures) ∙ sym c.push_reserved.ensures.items in
+    ap (λ (e : Entry). c.loop-i.history.items ++ (e ∷ [])) (sym c.entry_of.ensures) ∙ sym c.push_reserved.ensures.items in
     let taken : take i calls ++ (call ∷ []) ≡ take (i + 1) calls = sym (take_more calls i (Put 0 0) inside) in
     let run : HasRun c.args.cells.now.slots (take (i + 1) calls) c.answer-reply.new.cells c.push_reserved.new.self.items =
-        subst (λ (x : List Call × List Entry). HasRun c.args.cells.now.slots x.0 c.answer-reply.new.cells x.1) (λ j. (taken j, history j)) after in
+    subst (λ (x : List Call × List Entry). HasRun c.args.cells.now.slots x.0 c.answer-reply.new.cells x.1) (λ j. (taken j, history j)) after in
     let len : vec_len c.loop-i.history ≡ i = c.loop-i.invariant.1 in
     let room : length calls ≤ vec_capacity c.loop-i.history = c.loop-i.invariant.2 in
     (run, c.push_reserved.ensures.len ∙ ap (λ (n : ℕ). n + 1) len, subst (λ (n : ℕ). length calls ≤ n) (sym c.push_reserved.ensures.capacity) room)
