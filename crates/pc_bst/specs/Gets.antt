@@ -3,6 +3,7 @@ use Rattle.std.specs.Prelude.{ℕ, ◌≤◌, Option, Some}
 use Rattle.pc_model.specs.declared.cell.Field.TheVariants.{Value as ValueField}
 use Rattle.pc_model.specs.declared.call.Call.{Call}
 use Rattle.pc_model.specs.declared.call.Call.TheVariants.{Get}
+use Rattle.pc_model.specs.declared.call.Reply.{Reply}
 use Rattle.pc_model.specs.declared.call.Reply.TheVariants.{Value, None as Nothing}
 use Rattle.pc_bst.specs.declared.plan.Ask.{Ask}
 use Rattle.pc_bst.specs.declared.plan.Ask.TheVariants.{Visit as AskVisit, Read as AskRead, Answer}
@@ -23,6 +24,9 @@ get_call k = Some (Get k)
 
 abbrev pub get_of : ℕ → GetPhase
 get_of k = Walking (walk_of k)
+
+abbrev pub ended : Reply → GetPhase × Ask
+ended r = (Ended, Answer r)
 
 -- a get that has walked on: at the key it reads the value, and where the key is missing it answers
 abbrev pub get_walked : Walk → Step → GetPhase × Ask

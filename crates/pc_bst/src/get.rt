@@ -1,6 +1,5 @@
 //! The plan of a get: the walk, and where it finds the key, the value there.
 ghost use Rattle.std.specs.Prelude.{◌≡◌};
-ghost use Rattle.pc_bst.specs.Gets.{get_walked, get_moves};
 
 use crate::plan::{Ask, Plan, Told};
 use crate::walk::{Step, Walk};
@@ -62,9 +61,11 @@ impl Plan for BstGet {
     }
 
     fn next(&mut self, told: Told) -> Ask {
-        let (phase, ask) = next_of(self.phase, told);
-        self.phase = phase;
-        ask
+        match (self.phase, told) {
+            (GetPhase::Walking(walk), told) => self.walk_on(walk, told),
+            (GetPhase::Reading, Told::Number(value)) => self.end(Reply::Value(value)),
+            _ => self.end(Reply::None),
+        }
     }
 
     fn entry(call: u64) -> Option<Call> {
@@ -72,30 +73,36 @@ impl Plan for BstGet {
     }
 }
 
-/// The phase after the walk has gone on, and what the plan asks then.
-fn walked(walk: Walk, step: Step) -> (GetPhase, Ask)
-    ensures { result ≡ get_walked walk step }
-{
-    match step {
-        Step::Visit(node) => (GetPhase::Walking(walk), Ask::Visit(node)),
-        Step::Read(node, field) => (GetPhase::Walking(walk), Ask::Read(node, field)),
-        Step::Found => (GetPhase::Reading, Ask::Read(walk.node, Field::Value)),
-        Step::Missing(_, _) | Step::Astray => (GetPhase::Ended, Ask::Answer(Reply::None)),
-    }
-}
+impl BstGet {
+    ghost use Rattle.pc_bst.specs.Gets.{get_moves, ended};
+    ghost use Rattle.pc_bst.specs.declared.get.GetPhase.TheVariants.{Walking};
 
-fn next_of(phase: GetPhase, told: Told) -> (GetPhase, Ask)
-    ensures { result ≡ get_moves phase told }
-{
-    match (phase, told) {
-        (GetPhase::Walking(mut walk), told) => {
-            let step = walk.step(told);
-            walked(walk, step)
+    /// Tells the walk something, and asks for what it does next.
+    #[inline]
+    fn walk_on(&mut self, mut walk: Walk, told: Told) -> Ask
+        ensures { (self.new, result) ≡ get_moves (Walking walk) told }
+    {
+        match walk.step(told) {
+            Step::Visit(node) => {
+                self.phase = GetPhase::Walking(walk);
+                Ask::Visit(node)
+            }
+            Step::Read(node, field) => {
+                self.phase = GetPhase::Walking(walk);
+                Ask::Read(node, field)
+            }
+            Step::Found => {
+                self.phase = GetPhase::Reading;
+                Ask::Read(walk.node, Field::Value)
+            }
+            Step::Missing(_, _) | Step::Astray => self.end(Reply::None),
         }
-        (GetPhase::Reading, Told::Number(value)) => (
-            GetPhase::Ended,
-            Ask::Answer(Reply::Value(value)),
-        ),
-        _ => (GetPhase::Ended, Ask::Answer(Reply::None)),
+    }
+
+    fn end(&mut self, reply: Reply) -> Ask
+        ensures { (self.new, result) ≡ ended reply }
+    {
+        self.phase = GetPhase::Ended;
+        Ask::Answer(reply)
     }
 }

@@ -1,7 +1,7 @@
 //! The plan of a put: the walk, and where it finds the key, a change of the value there, else a
 //! fresh node at the link where the walk ended.
 ghost use Rattle.std.specs.Prelude.{◌≡◌};
-ghost use Rattle.pc_bst.specs.Puts.{put_walked, put_moves, raised, value_changed, leaf_added};
+ghost use Rattle.pc_bst.specs.Puts.{raised, value_changed, leaf_added};
 
 use crate::change::{Add, Change, Fresh, To};
 use crate::plan::{Ask, Plan, Told};
@@ -65,9 +65,17 @@ impl Plan for BstPut {
     }
 
     fn next(&mut self, told: Told) -> Ask {
-        let (phase, ask) = next_of(self.phase, told);
-        self.phase = phase;
-        ask
+        match (self.phase, told) {
+            (PutPhase::Walking(walk, value), told) => self.walk_on(walk, value, told),
+            (PutPhase::Reading(node, version, value), Told::Number(old)) => {
+                self.phase = PutPhase::Ended;
+                Ask::Change(change_value(node, version, old, value))
+            }
+            _ => {
+                self.phase = PutPhase::Ended;
+                Ask::Answer(Reply::None)
+            }
+        }
     }
 
     fn entry(call: (u64, u64)) -> Option<Call> {
@@ -125,37 +133,36 @@ fn add_leaf(walk: Walk, side: Field, link: u64, value: u64) -> Change
     change
 }
 
-/// The phase after the walk has gone on, and what the plan asks then.
-fn walked(value: u64, walk: Walk, step: Step) -> (PutPhase, Ask)
-    ensures { result ≡ put_walked value walk step }
-{
-    match step {
-        Step::Visit(node) => (PutPhase::Walking(walk, value), Ask::Visit(node)),
-        Step::Read(node, field) => (PutPhase::Walking(walk, value), Ask::Read(node, field)),
-        Step::Found => (
-            PutPhase::Reading(walk.node, walk.version, value),
-            Ask::Read(walk.node, Field::Value),
-        ),
-        Step::Missing(side, link) => (
-            PutPhase::Ended,
-            Ask::Change(add_leaf(walk, side, link, value)),
-        ),
-        Step::Astray => (PutPhase::Ended, Ask::Answer(Reply::None)),
-    }
-}
+impl BstPut {
+    ghost use Rattle.pc_bst.specs.Puts.{put_moves};
+    ghost use Rattle.pc_bst.specs.declared.put.PutPhase.TheVariants.{Walking};
 
-fn next_of(phase: PutPhase, told: Told) -> (PutPhase, Ask)
-    ensures { result ≡ put_moves phase told }
-{
-    match (phase, told) {
-        (PutPhase::Walking(mut walk, value), told) => {
-            let step = walk.step(told);
-            walked(value, walk, step)
+    /// Tells the walk something, and asks for what it does next.
+    #[inline]
+    fn walk_on(&mut self, mut walk: Walk, value: u64, told: Told) -> Ask
+        ensures { (self.new, result) ≡ put_moves (Walking walk value) told }
+    {
+        match walk.step(told) {
+            Step::Visit(node) => {
+                self.phase = PutPhase::Walking(walk, value);
+                Ask::Visit(node)
+            }
+            Step::Read(node, field) => {
+                self.phase = PutPhase::Walking(walk, value);
+                Ask::Read(node, field)
+            }
+            Step::Found => {
+                self.phase = PutPhase::Reading(walk.node, walk.version, value);
+                Ask::Read(walk.node, Field::Value)
+            }
+            Step::Missing(side, link) => {
+                self.phase = PutPhase::Ended;
+                Ask::Change(add_leaf(walk, side, link, value))
+            }
+            Step::Astray => {
+                self.phase = PutPhase::Ended;
+                Ask::Answer(Reply::None)
+            }
         }
-        (PutPhase::Reading(node, version, value), Told::Number(old)) => (
-            PutPhase::Ended,
-            Ask::Change(change_value(node, version, old, value)),
-        ),
-        _ => (PutPhase::Ended, Ask::Answer(Reply::None)),
     }
 }
