@@ -1,13 +1,11 @@
 -- Running calls one by one: nothing so far, one call more, and what the run is in the end.
 use Rattle.std.proofs.Common.{◌≡◌, ℕ, suc, ◌+◌, ◌<◌, ◌≤◌, List, [], ◌∷◌, ◌++◌, length, refl, sym, ap, ◌∙◌, subst, arith, length-append}
-use Rattle.std.specs.Prelude.{map}
 use Rattle.std.proofs.lemmas.List.{length-map}
 use Rattle.pc_model.specs.declared.call.Call.{Call}
 use Rattle.pc_model.specs.declared.call.Reply.{Reply}
 use Rattle.pc_model.specs.declared.call.Entry.{Entry}
 use Rattle.pc_model.specs.Map.{Pairs, IsRising, reply_of, pairs_after}
-use Rattle.pc_model.specs.Replay.{fold_of, fold_from, IsRight}
-use Rattle.pc_model.specs.History.{IsHistoryOf, IsNumberedFrom, AllOfPass, calls_of}
+use Rattle.pc_model.specs.Replay.{fold_of}
 use Rattle.pc_model.proofs.Histories.{IsNumberedFrom_push, AllOfPass_push, calls_of-push, one_client_history}
 use Rattle.pc_model.proofs.Replaying.{fold_from-push, right_push}
 use Rattle.pc_model.proofs.Sizes.{length-pairs_after}

@@ -48,7 +48,8 @@ pub fn serve<R: Threads + Wait + Sync, S: Source, K: Sink, G: Gate + Sync>(
     ensures usage { length words.now ≢ 1 → result.status ≡ 2 }
     ensures not_built { length words.now ≡ 1 → IfSome (S.left source.old) (λ bytes. SpellsNone bytes → IsRefusedInput result.status) }
 
-    // At most one byte past the limit is read.
+    // Without exactly one word nothing is read, and else at most one byte past the limit.
+    ensures unread { length words.now ≢ 1 → source.new ≡ source.old }
     ensures few { TakesAtMost 4194305 (S.left source.old) (S.left source.new) }
     ensures source_never_falls { S.faults source.old ≤ S.faults source.new }
     ensures sink_never_falls { K.faults sink.old ≤ K.faults sink.new }
@@ -65,6 +66,7 @@ fn run_input<S: Source>(alloc: Global, words: &[String], source: &mut S) -> Resu
     ensures ok { IfOk result (λ run. HasRunAll (S.left source.old) (S.left source.new) run.history.items run.pairs.items) }
     ensures one_word { IfOk result (λ _. length words.now ≡ 1) }
     ensures cause { IfErr result (IsCauseOf (length words.now) (S.left source.old) (S.faults source.old) (S.faults source.new)) }
+    ensures unread { length words.now ≢ 1 → source.new ≡ source.old }
     ensures few { TakesAtMost 4194305 (S.left source.old) (S.left source.new) }
     ensures never_falls { S.faults source.old ≤ S.faults source.new }
 {

@@ -1,5 +1,5 @@
-use Rattle.std.proofs.Common.{ℕ, ◌≡◌, ◌+◌, ◌-◌, ◌≤◌, vec_len, length, arith}
-use Rattle.pathmap.proofs.Turns.{HasRead, takes_at_most_more}
+use Rattle.std.proofs.Common.{◌≡◌, ◌-◌, ◌≤◌, vec_len, length, arith}
+use Rattle.pathmap.proofs.Turns.{takes_at_most_more}
 use Rattle.pathmap.proofs.reading.read_all.Goals as goal
 
 pub returns-in_err-count-clause-few : goal.returns-in_err-count-clause-few

@@ -1,4 +1,4 @@
-use Rattle.std.proofs.Common.{◌<◌, ◌≤◌, vec_len, length}
+use Rattle.std.proofs.Common.{◌<◌, ◌≤◌, vec_len}
 use Rattle.pathmap.proofs.Turns.{HasRead}
 use Rattle.pathmap.proofs.reading.read_all.Given as goal
 
