@@ -1,18 +1,18 @@
 -- Cells whose great versions are set back: how that goes with writing a word and a node, and that what
 -- is written so fits.
-use Rattle.std.proofs.Common.{◌≡◌, ℕ, zero, suc, ◌+◌, ◌%◌, ◌<◌, ◌≤◌, ◌==◌, ◌⊎◌, ⊎_elim, if◌then◌else◌, Bool, true, false, cond, List, [], ◌∷◌, ◌++◌, map, length, Option, Some, None, IfSome, option_to_list, nat_lt, refl, sym, ap, ◌∙◌, subst, arith}
+use Rattle.std.proofs.Common.{◌≡◌, ℕ, zero, suc, ◌+◌, ◌%◌, ◌<◌, ◌==◌, ⊎_elim, Bool, true, false, cond, List, [], ◌∷◌, map, nat_lt, refl, sym, ap, ◌∙◌, subst, arith}
 use Rattle.std.proofs.lemmas.Bool.{cases_Bool, cases_lt, eqb-true, lt-ltb, le-ltb, cond-true, cond-false, cond_both}
 use Rattle.pc_model.specs.declared.cell.Field.{Field}
 use Rattle.pc_model.specs.declared.cell.Field.TheVariants.{Version, Key, Value, Left, Right, Parent, Height, Spare}
-use Rattle.pc_model.specs.Cells.{Cells, FitsWords, IsNode, IsSlot, field_number, written, with_node}
-use Rattle.pc_model.specs.Exchanges.{with_changes, with_fresh}
+use Rattle.pc_model.specs.Cells.{Cells, FitsWords, field_number, written, with_node}
+use Rattle.pc_model.specs.Exchanges.{with_changes}
 use Rattle.pc_bst.specs.declared.change.To.{To}
 use Rattle.pc_bst.specs.declared.change.To.TheVariants.{Number, Fresh as FreshNumber}
 use Rattle.pc_bst.specs.declared.change.Add.{Add}
 use Rattle.pc_bst.specs.declared.change.Fresh.{Fresh}
-use Rattle.pc_bst.specs.Runs.{number_at, change_at, fresh_fields, fresh_at, FitsWord, AreWordsOf, FreshFits, taken_by}
-use Rattle.pc_bst.specs.PlainCells.{cells_in, limit, AreBelowLimits, kept, kept_cells}
-use Rattle.pc_bst.specs.PlainRuns.{with_adds, TakesSlot}
+use Rattle.pc_bst.specs.Runs.{number_at, change_at, fresh_fields, FitsWord, AreWordsOf, FreshFits}
+use Rattle.pc_bst.specs.PlainCells.{limit, AreBelowLimits, kept, kept_cells}
+use Rattle.pc_bst.specs.PlainRuns.{with_adds}
 
 -- the field with a number
 abbrev field_at : ℕ → Field
@@ -72,11 +72,11 @@ kept_written_at : (n : ℕ) (f : Field) (v : ℕ) (c : Cells) (m : ℕ) (g : Fie
 kept_written_at n f v c m g =
     let s : Bool = m == n in let t : Bool = field_number g == field_number f in
     kept_cond g t (cond s v (c m g)) (c m g) ∙ ⊎_elim
-      (λ e. cond-true t (kept g (cond s v (c m g))) (kept g (c m g)) e ∙ kept_cond g s v (c m g)
-        ∙ (let same : g ≡ f = same_field g f (eqb-true (field_number g) (field_number f) e) in ap (λ (h : Field). cond s (kept h v) (kept g (c m g))) same)
-        ∙ sym (cond-true t (cond s (kept f v) (kept g (c m g))) (kept g (c m g)) e))
-      (λ e. cond-false t (kept g (cond s v (c m g))) (kept g (c m g)) e ∙ sym (cond-false t (cond s (kept f v) (kept g (c m g))) (kept g (c m g)) e))
-      (cases_Bool t)
+    (λ e. cond-true t (kept g (cond s v (c m g))) (kept g (c m g)) e ∙ kept_cond g s v (c m g)
+    ∙ (let same : g ≡ f = same_field g f (eqb-true (field_number g) (field_number f) e) in ap (λ (h : Field). cond s (kept h v) (kept g (c m g))) same)
+    ∙ sym (cond-true t (cond s (kept f v) (kept g (c m g))) (kept g (c m g)) e))
+    (λ e. cond-false t (kept g (cond s v (c m g))) (kept g (c m g)) e ∙ sym (cond-false t (cond s (kept f v) (kept g (c m g))) (kept g (c m g)) e))
+    (cases_Bool t)
 
 pub kept_written : (n : ℕ) (f : Field) (v : ℕ) (c : Cells) → kept_cells (written n f v c) ≡ written n f (kept f v) (kept_cells c)
 kept_written n f v c = λ i m g. kept_written_at n f v c m g i
@@ -94,7 +94,7 @@ kept_adds slot (a ∷ adds) c =
 
 node_written_at : (c : Cells) (slot version : ℕ) (fresh : Fresh) (m : ℕ) (g : Field)
     → written slot Spare 0 (written slot Height fresh.height (written slot Parent fresh.parent (written slot Right 0 (written slot Left 0 (written slot Value fresh.value (written slot Key fresh.key (written slot Version (kept Version (version + 1)) c))))))) m g
-      ≡ with_node slot (λ f. kept f (fresh_fields version fresh f)) c m g
+    ≡ with_node slot (λ f. kept f (fresh_fields version fresh f)) c m g
 node_written_at c slot version fresh m Version = refl
 node_written_at c slot version fresh m Key = refl
 node_written_at c slot version fresh m Value = refl
@@ -107,7 +107,7 @@ node_written_at c slot version fresh m Spare = refl
 -- the eight fields of a fresh node written one after another are the node written
 pub node_written : (c : Cells) (slot version : ℕ) (fresh : Fresh)
     → written slot Spare 0 (written slot Height fresh.height (written slot Parent fresh.parent (written slot Right 0 (written slot Left 0 (written slot Value fresh.value (written slot Key fresh.key (written slot Version (kept Version (version + 1)) c)))))))
-      ≡ with_node slot (λ f. kept f (fresh_fields version fresh f)) c
+    ≡ with_node slot (λ f. kept f (fresh_fields version fresh f)) c
 node_written c slot version fresh = λ i m g. node_written_at c slot version fresh m g i
 
 below_cond : (b : Bool) (x y z : ℕ) → x < z → y < z → cond b x y < z
@@ -118,7 +118,7 @@ below_cond false x y z h k = k
 pub below_written : (n : ℕ) (f : Field) (v : ℕ) (c : Cells) → v < limit f → AreBelowLimits c → AreBelowLimits (written n f v c)
 below_written n f v c small below m g = cond_both (field_number g == field_number f) (cond (m == n) v (c m g)) (c m g) (λ y. y < limit g)
     (λ e. let same : g ≡ f = same_field g f (eqb-true (field_number g) (field_number f) e) in
-      below_cond (m == n) v (c m g) (limit g) (subst (λ (h : Field). v < limit h) (sym same) small) (below m g))
+    below_cond (m == n) v (c m g) (limit g) (subst (λ (h : Field). v < limit h) (sym same) small) (below m g))
     (λ e. below m g)
 
 pub below_node : (slot : ℕ) (fields : Field → ℕ) (c : Cells) → ((f : Field) → fields f < limit f) → AreBelowLimits c → AreBelowLimits (with_node slot fields c)
@@ -145,7 +145,7 @@ pub below_adds : (slots slot : ℕ) (adds : List Add) (c : Cells) → slot < 429
 below_adds slots slot [] c small words below = below
 below_adds slots slot (a ∷ adds) c small words below =
     below_adds slots slot adds (written a.node a.field (kept a.field (number_at slot a.new)) c) small words.1
-      (below_written a.node a.field (kept a.field (number_at slot a.new)) c (word_below slot a.field a.new small words.0.1) below)
+    (below_written a.node a.field (kept a.field (number_at slot a.new)) c (word_below slot a.field a.new small words.0.1) below)
 
 pub fresh_below : (slots version : ℕ) (fresh : Fresh) → FreshFits slots fresh → fresh.parent < 4294967296 → (f : Field) → kept f (fresh_fields version fresh f) < limit f
 fresh_below slots version fresh fits parent Version = kept_small (version + 1)
@@ -170,6 +170,6 @@ below_words Spare x h = h
 -- cells below their limits fit
 pub fits_words : (slots : ℕ) (c : Cells) → AreBelowLimits c → FitsWords slots c
 fits_words slots c below = record {
-    words = λ n f _. below_words f (c n f) (below n f);
-    versions = λ n _. let h : c n Version < 1152921504606846970 = below n Version in omega arith
-  }
+  words = λ n f _. below_words f (c n f) (below n f);
+  versions = λ n _. let h : c n Version < 1152921504606846970 = below n Version in omega arith;
+}

@@ -1,6 +1,6 @@
 -- How the pairs of a tree are listed with a stack: what is listed, then the tree that the walk is at,
 -- then each waiting node with its right tree.
-use Rattle.std.proofs.Common.{◌≡◌, ◌≢◌, ℕ, zero, suc, ◌+◌, ◌-◌, ◌*◌, ◌<◌, ◌≤◌, List, [], ◌∷◌, ◌++◌, length, refl, sym, ap, ◌∙◌, subst, arith, length-append, append_assoc}
+use Rattle.std.proofs.Common.{◌≡◌, ◌≢◌, ℕ, suc, ◌+◌, ◌≤◌, List, [], ◌∷◌, ◌++◌, length, refl, sym, ap, ◌∙◌, subst, arith, length-append, append_assoc}
 use Rattle.std.proofs.lemmas.List.{append-nil}
 use Rattle.pc_model.specs.declared.cell.Field.TheVariants.{Left, Right}
 use Rattle.pc_model.specs.Map.{Pairs, IsRising}
@@ -17,9 +17,14 @@ waits_more : (kind : Kind) (slots : ℕ) (c : Cells) (stack : List ℕ) (rest : 
     → Waits kind slots c (stack ++ m ∷ []) (pair_of c m ∷ (pairs_of c right ++ rest))
 waits_more kind slots c [] rest m right waits slot spelled =
     (right, [], slot, spelled, refl, ap (λ (x : Pairs). pair_of c m ∷ (pairs_of c right ++ x)) waits ∙ ap (λ (x : Pairs). pair_of c m ∷ x) (append-nil (pairs_of c right)))
-waits_more kind slots c (n ∷ stack) rest m right waits slot spelled =
-    (waits.0, pair_of c m ∷ (pairs_of c right ++ waits.1), waits.2, waits.3, waits_more kind slots c stack waits.1 m right waits.4 slot spelled,
-      ap (λ (x : Pairs). pair_of c m ∷ x) (ap (λ (x : Pairs). pairs_of c right ++ x) waits.5 ∙ sym (append_assoc (pairs_of c right) waits.1 (pair_of c n ∷ pairs_of c waits.0))))
+waits_more kind slots c (n ∷ stack) rest m right waits slot spelled = (
+  waits.0,
+  pair_of c m ∷ (pairs_of c right ++ waits.1),
+  waits.2,
+  waits.3,
+  waits_more kind slots c stack waits.1 m right waits.4 slot spelled,
+  ap (λ (x : Pairs). pair_of c m ∷ x) (ap (λ (x : Pairs). pairs_of c right ++ x) waits.5 ∙ sym (append_assoc (pairs_of c right) waits.1 (pair_of c n ∷ pairs_of c waits.0))),
+)
 
 -- the last of the stack, with its right tree and the pairs after those
 pub record LastWaits (kind : Kind) (slots : ℕ) (c : Cells) (stack : List ℕ) (rest : Pairs) (m : ℕ) : Type 0 where
@@ -32,16 +37,23 @@ pub record LastWaits (kind : Kind) (slots : ℕ) (c : Cells) (stack : List ℕ) 
 
 waits_less : (kind : Kind) (slots : ℕ) (c : Cells) (stack : List ℕ) (rest : Pairs) (m : ℕ) → Waits kind slots c (stack ++ m ∷ []) rest → LastWaits kind slots c stack rest m
 waits_less kind slots c [] rest m waits = record {
-    right = waits.0; front = []; slot = waits.2; spelled = waits.3; waits = refl;
-    whole = waits.5 ∙ ap (λ (x : Pairs). x ++ (pair_of c m ∷ pairs_of c waits.0)) waits.4 ∙ ap (λ (x : Pairs). pair_of c m ∷ x) (sym (append-nil (pairs_of c waits.0)))
-  }
+  right = waits.0;
+  front = [];
+  slot = waits.2;
+  spelled = waits.3;
+  waits = refl;
+  whole = waits.5 ∙ ap (λ (x : Pairs). x ++ (pair_of c m ∷ pairs_of c waits.0)) waits.4 ∙ ap (λ (x : Pairs). pair_of c m ∷ x) (sym (append-nil (pairs_of c waits.0)));
+}
 waits_less kind slots c (n ∷ stack) rest m waits =
     let last : LastWaits kind slots c stack waits.1 m = waits_less kind slots c stack waits.1 m waits.4 in
     let here : Pairs = pair_of c n ∷ pairs_of c waits.0 in
     record {
-      right = last.right; front = last.front ++ here; slot = last.slot; spelled = last.spelled;
+      right = last.right;
+      front = last.front ++ here;
+      slot = last.slot;
+      spelled = last.spelled;
       waits = (waits.0, last.front, waits.2, waits.3, last.waits, refl);
-      whole = waits.5 ∙ ap (λ (x : Pairs). x ++ here) last.whole ∙ ap (λ (x : Pairs). pair_of c m ∷ x) (append_assoc (pairs_of c last.right) last.front here)
+      whole = waits.5 ∙ ap (λ (x : Pairs). x ++ here) last.whole ∙ ap (λ (x : Pairs). pair_of c m ∷ x) (append_assoc (pairs_of c last.right) last.front here);
     }
 
 waits_few : (kind : Kind) (slots : ℕ) (c : Cells) (stack : List ℕ) (rest : Pairs) → Waits kind slots c stack rest → length stack ≤ length rest
@@ -96,9 +108,16 @@ pub record IsListing (slots : ℕ) (c : Cells) (listed : Pairs) (link : ℕ) (st
 
 pub listing_first : (kind : Kind) (slots : ℕ) (c : Cells) (all : Pairs) → IsSearchTree kind slots c all → IsListing slots c [] (c 1 Left) []
 listing_first kind slots c all search = record {
-    kind = kind; all = all; search = search; above = 1; tree = search.tree; rest = []; spelled = search.spelled; waits = refl;
-    whole = append-nil (pairs_of c search.tree) ∙ search.pairs
-  }
+  kind = kind;
+  all = all;
+  search = search;
+  above = 1;
+  tree = search.tree;
+  rest = [];
+  spelled = search.spelled;
+  waits = refl;
+  whole = append-nil (pairs_of c search.tree) ∙ search.pairs;
+}
 
 module _ (slots : ℕ) (c : Cells) (listed : Pairs) where
   pub listing_slot : (link : ℕ) (stack : List ℕ) → IsListing slots c listed link stack → link ≢ 0 → IsSlot slots link
@@ -110,9 +129,15 @@ module _ (slots : ℕ) (c : Cells) (listed : Pairs) where
       let fork : ForkAt at.kind slots c at.tree link = fork_at at.kind slots c at.tree at.above link at.spelled ne in
       let here : Pairs = pair_of c link ∷ pairs_of c fork.right in
       record {
-        kind = at.kind; all = at.all; search = at.search; above = link; tree = fork.left; rest = pair_of c link ∷ (pairs_of c fork.right ++ at.rest); spelled = fork.spelled_left;
+        kind = at.kind;
+        all = at.all;
+        search = at.search;
+        above = link;
+        tree = fork.left;
+        rest = pair_of c link ∷ (pairs_of c fork.right ++ at.rest);
+        spelled = fork.spelled_left;
         waits = waits_more at.kind slots c stack at.rest link fork.right at.waits fork.slot fork.spelled_right;
-        whole = ap (λ (x : Pairs). listed ++ x) (sym (ap (λ (x : Pairs). x ++ at.rest) fork.pairs ∙ append_assoc (pairs_of c fork.left) here at.rest)) ∙ at.whole
+        whole = ap (λ (x : Pairs). listed ++ x) (sym (ap (λ (x : Pairs). x ++ at.rest) fork.pairs ∙ append_assoc (pairs_of c fork.left) here at.rest)) ∙ at.whole;
       }
 
   pub listing_last : (stack : List ℕ) (node : ℕ) (at : IsListing slots c listed 0 (stack ++ node ∷ [])) → LastWaits at.kind slots c stack at.rest node
@@ -123,9 +148,16 @@ module _ (slots : ℕ) (c : Cells) (listed : Pairs) where
   listing_right stack node at =
       let last : LastWaits at.kind slots c stack at.rest node = listing_last stack node at in
       record {
-        kind = at.kind; all = at.all; search = at.search; above = node; tree = last.right; rest = last.front; spelled = last.spelled; waits = last.waits;
+        kind = at.kind;
+        all = at.all;
+        search = at.search;
+        above = node;
+        tree = last.right;
+        rest = last.front;
+        spelled = last.spelled;
+        waits = last.waits;
         whole = append_assoc listed (pair_of c node ∷ []) (pairs_of c last.right ++ last.front)
-          ∙ ap (λ (x : Pairs). listed ++ x) (sym (ap (λ (x : Pairs). x ++ at.rest) (none_at at.kind slots c at.tree at.above at.spelled) ∙ last.whole)) ∙ at.whole
+            ∙ ap (λ (x : Pairs). listed ++ x) (sym (ap (λ (x : Pairs). x ++ at.rest) (none_at at.kind slots c at.tree at.above at.spelled) ∙ last.whole)) ∙ at.whole;
       }
 
   -- no more nodes are listed and wait than there are slots
@@ -135,7 +167,7 @@ module _ (slots : ℕ) (c : Cells) (listed : Pairs) where
       let size : size_of at.search.tree ≤ slots = size-le-slots at.kind slots c at.search.tree 1 (c 1 Left) at.search.spelled rising in
       let long : length at.all ≡ size_of at.search.tree = ap (λ (x : Pairs). length x) (sym at.search.pairs) ∙ length-pairs_of c at.search.tree in
       let parts : length at.all ≡ length listed + (length (pairs_of c at.tree) + length at.rest)
-        = ap (λ (x : Pairs). length x) (sym at.whole) ∙ length-append listed (pairs_of c at.tree ++ at.rest) ∙ ap (λ (x : ℕ). length listed + x) (length-append (pairs_of c at.tree) at.rest) in
+      = ap (λ (x : Pairs). length x) (sym at.whole) ∙ length-append listed (pairs_of c at.tree ++ at.rest) ∙ ap (λ (x : ℕ). length listed + x) (length-append (pairs_of c at.tree) at.rest) in
       let few : length stack ≤ length at.rest = waits_few at.kind slots c stack at.rest at.waits in
       omega arith
 

@@ -1,8 +1,7 @@
 -- An exchange that is made in plain cells: the slot that it takes is one that it may take, its words
 -- can be written, and the cells that it leaves are sound again.
-use Rattle.std.proofs.Common.{◌≡◌, ℕ, zero, suc, ◌+◌, ◌*◌, ◌%◌, ◌<◌, ◌≤◌, ◌==◌, ◌&&◌, ◌⊎◌, ⊎_elim, if◌then◌else◌, Bool, true, false, cond, List, [], ◌∷◌, ◌++◌, map, length, Option, Some, None, IfSome, IsSome, option_to_list, nat_lt, nat_le, refl, sym, ap, ◌∙◌, subst, arith, length-append}
-use Rattle.std.proofs.lemmas.Bool.{cases_Bool, eqb-true, eq-eqb, leb-true, le-leb, and_parts, and_from}
-use Rattle.pc_model.specs.declared.cell.Field.{Field}
+use Rattle.std.proofs.Common.{◌≡◌, ℕ, ◌+◌, ◌*◌, ◌%◌, ◌<◌, ◌≤◌, ◌==◌, ◌&&◌, ⊎_elim, if◌then◌else◌, Bool, true, false, cond, List, [], ◌∷◌, ◌++◌, length, Option, Some, None, IfSome, IsSome, option_to_list, nat_le, refl, sym, ap, ◌∙◌, subst, arith, length-append}
+use Rattle.std.proofs.lemmas.Bool.{cases_Bool, eqb-true, leb-true, le-leb, and_parts, and_from}
 use Rattle.pc_model.specs.declared.cell.Field.TheVariants.{Version}
 use Rattle.pc_model.specs.Cells.{Cells, IsEven, IsOdd, IsNode, IsSlot}
 use Rattle.pc_model.specs.Counts.{count, one_if}
@@ -75,31 +74,31 @@ counts_after slots words words' free rest capacity taken mark sound split marked
     let after : count n (rest ++ option_to_list mark) ≡ k + one_if (is_slot mark n) = count-append n rest (option_to_list mark) ∙ ap (λ (y : ℕ). k + y) (counted_one mark n) in
     let once : count n free ≡ one_if (is_free slots (cells_in words) n) = sound.free_once n in
     after ∙ ⊎_elim
-      (λ e.
-        let s : IsSlot slots n = numbered_slot slots n e in
-        let was : is_free slots (cells_in words) n ≡ (x == 1) = ap (λ (b : Bool). b && (x == 1)) e in
-        let is : is_free slots (cells_in words') n ≡ (x' == 1) = ap (λ (b : Bool). b && (x' == 1)) e in
-        let sum : k + one_if (is_slot taken n) ≡ one_if (x == 1) = sym before ∙ once ∙ ap one_if was in
-        let step : k + one_if (is_slot mark n) ≡ one_if ((cond (is_slot mark n) 1 (cond (is_slot taken n) 0 x)) == 1)
-          = count_after k x (is_slot mark n) (is_slot taken n) sum (λ m. (marked_slot slots (cells_in words) mark n marked m).1) in
-        step ∙ ap (λ (y : ℕ). one_if (y == 1)) (sym (parity n s)) ∙ sym (ap one_if is))
-      (λ e.
-        let was : is_free slots (cells_in words) n ≡ false = ap (λ (b : Bool). b && (x == 1)) e in
-        let is : is_free slots (cells_in words') n ≡ false = ap (λ (b : Bool). b && (x' == 1)) e in
-        let none : k + one_if (is_slot taken n) ≡ 0 = sym before ∙ once ∙ ap one_if was in
-        let unmarked : one_if (is_slot mark n) ≡ 0 = ⊎_elim
-          (λ m. let s : is_numbered slots n ≡ true = slot_numbered slots n (marked_slot slots (cells_in words) mark n marked m).0 in let q : true ≡ false = sym s ∙ e in absurd (cc))
-          (λ m. ap one_if m) (cases_Bool (is_slot mark n)) in
-        let z : k + one_if (is_slot mark n) ≡ 0 = omega arith in
-        z ∙ sym (ap one_if is))
-      (cases_Bool (is_numbered slots n))
+    (λ e.
+    let s : IsSlot slots n = numbered_slot slots n e in
+    let was : is_free slots (cells_in words) n ≡ (x == 1) = ap (λ (b : Bool). b && (x == 1)) e in
+    let is : is_free slots (cells_in words') n ≡ (x' == 1) = ap (λ (b : Bool). b && (x' == 1)) e in
+    let sum : k + one_if (is_slot taken n) ≡ one_if (x == 1) = sym before ∙ once ∙ ap one_if was in
+    let step : k + one_if (is_slot mark n) ≡ one_if ((cond (is_slot mark n) 1 (cond (is_slot taken n) 0 x)) == 1)
+    = count_after k x (is_slot mark n) (is_slot taken n) sum (λ m. (marked_slot slots (cells_in words) mark n marked m).1) in
+    step ∙ ap (λ (y : ℕ). one_if (y == 1)) (sym (parity n s)) ∙ sym (ap one_if is))
+    (λ e.
+    let was : is_free slots (cells_in words) n ≡ false = ap (λ (b : Bool). b && (x == 1)) e in
+    let is : is_free slots (cells_in words') n ≡ false = ap (λ (b : Bool). b && (x' == 1)) e in
+    let none : k + one_if (is_slot taken n) ≡ 0 = sym before ∙ once ∙ ap one_if was in
+    let unmarked : one_if (is_slot mark n) ≡ 0 = ⊎_elim
+    (λ m. let s : is_numbered slots n ≡ true = slot_numbered slots n (marked_slot slots (cells_in words) mark n marked m).0 in let q : true ≡ false = sym s ∙ e in absurd (cc))
+    (λ m. ap one_if m) (cases_Bool (is_slot mark n)) in
+    let z : k + one_if (is_slot mark n) ≡ 0 = omega arith in
+    z ∙ sym (ap one_if is))
+    (cases_Bool (is_numbered slots n))
 
 -- a stack with each free slot once is no longer than there are slots
 stack_short : (slots : ℕ) (c : Cells) (free : List ℕ) → ((n : ℕ) → count n free ≡ one_if (is_free slots c n)) → length free ≤ slots
 stack_short slots c free once =
     length-le-slots slots free
-      (λ n. let e : count n free ≡ one_if (is_free slots c n) = once n in let f : one_if (is_free slots c n) ≤ 1 = at_most (is_free slots c n) in omega arith)
-      (λ n h. let e : count n free ≡ one_if (is_free slots c n) = once n in (free_slot slots c n (one_if_true (is_free slots c n) (omega arith))).0)
+    (λ n. let e : count n free ≡ one_if (is_free slots c n) = once n in let f : one_if (is_free slots c n) ≤ 1 = at_most (is_free slots c n) in omega arith)
+    (λ n h. let e : count n free ≡ one_if (is_free slots c n) = once n in (free_slot slots c n (one_if_true (is_free slots c n) (omega arith))).0)
   where
     at_most : (b : Bool) → one_if b ≤ 1
     at_most true = omega arith
@@ -116,7 +115,7 @@ below_fresh slots words words' free free' (Some f) slot below takes fits =
     let c : Cells = cells_in words in
     let version : ℕ = c slot Version in
     let e : cells_in words' ≡ with_fresh (Some (record { node = slot; fields = λ g. kept g (fresh_fields version f g) })) c
-      = takes.cells ∙ kept_node slot (fresh_fields version f) c ∙ ap (λ (d : Cells). with_fresh (Some (record { node = slot; fields = λ g. kept g (fresh_fields version f g) })) d) (kept_same c below) in
+    = takes.cells ∙ kept_node slot (fresh_fields version f) c ∙ ap (λ (d : Cells). with_fresh (Some (record { node = slot; fields = λ g. kept g (fresh_fields version f g) })) d) (kept_same c below) in
     subst AreBelowLimits (sym e) (below_node slot (λ g. kept g (fresh_fields version f g)) c (fresh_below slots version f fits takes.parent) below)
 
 module _ (w : PlainWords) (free : List ℕ) (capacity : ℕ) (p : Planned) (sound : IsSoundPlain w.slots w.words free capacity) (can : CanMake w p)
@@ -160,12 +159,12 @@ module _ (w : PlainWords) (free : List ℕ) (capacity : ℕ) (p : Planned) (soun
 
     pub made_sound : (free' : List ℕ) (capacity' : ℕ) → free' ≡ rest ++ option_to_list p.mark → capacity' ≡ capacity → length words' ≡ length words → IsSoundPlain w.slots words' free' capacity'
     made_sound free' capacity' e f long = record {
-        few = sound.few;
-        long = long ∙ takes.long ∙ sound.long;
-        fit = made_below;
-        free_once = subst (λ (l : List ℕ). (n : ℕ) → count n l ≡ one_if (is_free w.slots (cells_in words') n)) (sym e) made_once;
-        room = subst (λ (x : ℕ). w.slots ≤ x) (sym f) sound.room
-      }
+      few = sound.few;
+      long = long ∙ takes.long ∙ sound.long;
+      fit = made_below;
+      free_once = subst (λ (l : List ℕ). (n : ℕ) → count n l ≡ one_if (is_free w.slots (cells_in words') n)) (sym e) made_once;
+      room = subst (λ (x : ℕ). w.slots ≤ x) (sym f) sound.room;
+    }
 
     pub made_is : IsMade w (record { slots = w.slots; words = words' }) [] p
     made_is = record { slot = slot; takes = made_allowed; cells = λ n f. ap (λ (d : Cells). d n f) made_cells }

@@ -1,15 +1,15 @@
 -- The words that a tree opens with, and the stack of all slots.
-use Rattle.std.proofs.Common.{◌≡◌, ◌≢◌, ℕ, zero, suc, ◌+◌, ◌-◌, ◌*◌, ◌%◌, ◌<◌, ◌≤◌, ◌==◌, ◌&&◌, ◌⊎◌, ⊎_elim, if◌then◌else◌, Bool, true, false, cond, List, [], ◌∷◌, ◌++◌, length, get_or, nat_lt, nat_le, replicate, refl, sym, ap, ◌∙◌, subst, arith}
-use Rattle.std.proofs.lemmas.List.{get_or-replicate, get_or_past, length-replicate}
-use Rattle.std.proofs.lemmas.Bool.{cases_Bool, cases_eq, cases_lt, lt-ltb, le-ltb, le-leb, lt-leb, eq-eqb, ne_eqb, eqb-true, leb-true, and_parts, and_from, and_left}
+use Rattle.std.proofs.Common.{◌≡◌, ◌≢◌, ℕ, ◌+◌, ◌-◌, ◌*◌, ◌%◌, ◌<◌, ◌≤◌, ◌==◌, ◌&&◌, ⊎_elim, if◌then◌else◌, Bool, true, false, List, [], ◌∷◌, ◌++◌, length, nat_lt, nat_le, refl, sym, ap, ◌∙◌, arith}
+use Rattle.std.proofs.lemmas.List.{get_or_past}
+use Rattle.std.proofs.lemmas.Bool.{cases_Bool, cases_eq, cases_lt, eq-eqb, ne_eqb, leb-true, and_parts, and_from, and_left}
 use Rattle.std.proofs.lemmas.Bool.Decides.{nat_tests}
 use Rattle.pc_model.specs.declared.cell.Field.{Field}
 use Rattle.pc_model.specs.declared.cell.Field.TheVariants.{Version, Key, Value, Left, Right, Parent, Height, Spare}
-use Rattle.pc_model.specs.Cells.{Cells, IsEven, IsNode, IsSlot, field_number, written, opening_fields}
+use Rattle.pc_model.specs.Cells.{Cells, field_number, written, opening_fields}
 use Rattle.pc_model.specs.Counts.{count, one_if}
 use Rattle.pc_model.specs.Trees.{Empty, plain, IsSearchTree}
 use Rattle.pc_model.proofs.Counting.{count-append}
-use Rattle.pc_bst.specs.PlainCells.{PlainWords, cells_in, cells_of, limit, AreBelowLimits, is_free, IsSoundPlain, AreOpening, IsEmptyTree}
+use Rattle.pc_bst.specs.PlainCells.{cells_in, limit, AreBelowLimits, is_free, IsSoundPlain}
 use Rattle.pc_bst.specs.PlainRuns.{OpensCells, HasEachSlot}
 
 -- whether a slot is among the greatest slots, so many of them
@@ -24,18 +24,18 @@ one_pushed slots k n xs h before =
     let s : ℕ = slots + 1 - k in
     let split : count n (xs ++ s ∷ []) ≡ count n xs + (one_if (s == n) + 0) = count-append n xs (s ∷ []) in
     ⊎_elim
-      (λ e. let t : one_if (s == n) ≡ 1 = ap one_if (eq-eqb s n e) in
-        let e' : slots + 1 - k ≡ n = e in
-        let was : is_among_last slots k n ≡ false = grind (arith, nat_tests) in
-        let is : is_among_last slots (k + 1) n ≡ true = grind (arith, nat_tests) in
-        let was' : count n xs ≡ 0 = before ∙ ap one_if was in
-        let is' : one_if (is_among_last slots (k + 1) n) ≡ 1 = ap one_if is in
-        let sum : count n xs + (one_if (s == n) + 0) ≡ 1 = omega arith in split ∙ sum ∙ sym is')
-      (λ ne. let t : one_if (s == n) ≡ 0 = ap one_if (ne_eqb s n ne) in
-        let ne' : slots + 1 - k ≢ n = ne in
-        let same : is_among_last slots k n ≡ is_among_last slots (k + 1) n = grind (arith, nat_tests) in
-        let sum : count n xs + (one_if (s == n) + 0) ≡ count n xs = omega arith in split ∙ sum ∙ before ∙ ap one_if same)
-      (cases_eq s n)
+    (λ e. let t : one_if (s == n) ≡ 1 = ap one_if (eq-eqb s n e) in
+    let e' : slots + 1 - k ≡ n = e in
+    let was : is_among_last slots k n ≡ false = grind (arith, nat_tests) in
+    let is : is_among_last slots (k + 1) n ≡ true = grind (arith, nat_tests) in
+    let was' : count n xs ≡ 0 = before ∙ ap one_if was in
+    let is' : one_if (is_among_last slots (k + 1) n) ≡ 1 = ap one_if is in
+    let sum : count n xs + (one_if (s == n) + 0) ≡ 1 = omega arith in split ∙ sum ∙ sym is')
+    (λ ne. let t : one_if (s == n) ≡ 0 = ap one_if (ne_eqb s n ne) in
+    let ne' : slots + 1 - k ≢ n = ne in
+    let same : is_among_last slots k n ≡ is_among_last slots (k + 1) n = grind (arith, nat_tests) in
+    let sum : count n xs + (one_if (s == n) + 0) ≡ count n xs = omega arith in split ∙ sum ∙ before ∙ ap one_if same)
+    (cases_eq s n)
 
 pub all_pushed : (slots n : ℕ) → one_if (is_among_last slots slots n) ≡ one_if (nat_le 2 n && nat_le n (slots + 1))
 all_pushed slots n = let same : is_among_last slots slots n ≡ (nat_le 2 n && nat_le n (slots + 1)) = grind (arith, nat_tests) in ap one_if same
@@ -108,13 +108,13 @@ module _ (slots : ℕ) (words : List ℕ) (long : length words ≡ 8 * (slots + 
   opening_once free each n =
       let b : Bool = nat_le 2 n && nat_le n (slots + 1) in
       each n ∙ ⊎_elim
-        (λ e. let parts : (nat_le 2 n ≡ true) × (nat_le n (slots + 1) ≡ true) = and_parts (nat_le 2 n) (nat_le n (slots + 1)) e in
-          let v : cells_in words n Version ≡ 1 = opens n Version (leb-true n (slots + 1) parts.1) ∙ version_opened n (leb-true 2 n parts.0) in
-          let odd : (cells_in words n Version % 2 == 1) ≡ true = ap (λ (x : ℕ). x % 2 == 1) v in
-          let is : is_free slots (cells_in words) n ≡ true = and_from b (cells_in words n Version % 2 == 1) e odd in
-          ap one_if e ∙ sym (ap one_if is))
-        (λ e. let is : is_free slots (cells_in words) n ≡ false = and_left b (cells_in words n Version % 2 == 1) e in ap one_if e ∙ sym (ap one_if is))
-        (cases_Bool b)
+      (λ e. let parts : (nat_le 2 n ≡ true) × (nat_le n (slots + 1) ≡ true) = and_parts (nat_le 2 n) (nat_le n (slots + 1)) e in
+      let v : cells_in words n Version ≡ 1 = opens n Version (leb-true n (slots + 1) parts.1) ∙ version_opened n (leb-true 2 n parts.0) in
+      let odd : (cells_in words n Version % 2 == 1) ≡ true = ap (λ (x : ℕ). x % 2 == 1) v in
+      let is : is_free slots (cells_in words) n ≡ true = and_from b (cells_in words n Version % 2 == 1) e odd in
+      ap one_if e ∙ sym (ap one_if is))
+      (λ e. let is : is_free slots (cells_in words) n ≡ false = and_left b (cells_in words n Version % 2 == 1) e in ap one_if e ∙ sym (ap one_if is))
+      (cases_Bool b)
 
   pub opening_sound : (free : List ℕ) (capacity : ℕ) → slots ≤ 61000 → HasEachSlot slots free → capacity ≡ slots → IsSoundPlain slots words free capacity
   opening_sound free capacity few each room = record { few = few; long = long; fit = opening_below; free_once = opening_once free each; room = omega arith }
@@ -131,5 +131,5 @@ module _ (slots : ℕ) (words : List ℕ) (long : length words ≡ 8 * (slots + 
         covered = λ n s e. let v : cells_in words n Version ≡ 1 = opens n Version s.1 ∙ version_opened n s.0 in absurd (let odd : 1 % 2 ≡ 0 = rw v at e in omega arith);
         unmarked = ap (λ (x : ℕ). x % 2) even;
         no_right = opens 1 Right (omega arith);
-        no_parent = opens 1 Parent (omega arith)
+        no_parent = opens 1 Parent (omega arith);
       }

@@ -1,6 +1,6 @@
 -- That a run ends right: from what a plan's law says of where its trace leads, and from the exchange
 -- that was made.
-use Rattle.std.proofs.Common.{◌≡◌, ◌≢◌, ℕ, ◌+◌, ◌%◌, ◌≤◌, List, [], Option, Result, Ok, Err, IfOk, OnOk, refl, sym, ap, ◌∙◌, subst}
+use Rattle.std.proofs.Common.{◌≡◌, ◌≢◌, ℕ, ◌%◌, ◌≤◌, List, [], Option, Result, Ok, Err, IfOk, OnOk, refl, sym, ap, ◌∙◌, subst}
 use Rattle.pc_model.specs.declared.call.Call.{Call}
 use Rattle.pc_model.specs.declared.call.Reply.{Reply}
 use Rattle.pc_model.specs.declared.cell.Field.{Field}
@@ -13,7 +13,7 @@ use Rattle.pc_bst.specs.declared.plan.Ask.TheVariants.{Change, Answer}
 use Rattle.pc_bst.specs.declared.plan.Told.{Told}
 use Rattle.pc_bst.specs.Planned.{Planned}
 use Rattle.pc_bst.specs.Traces.{Event}
-use Rattle.pc_bst.specs.Runs.{exchange_of, Takes, IsRightChange, IsRightReply, next_pairs, IsRightAsk, past_of, reached, IsReady, Runs, KeepsParity}
+use Rattle.pc_bst.specs.Runs.{exchange_of, Takes, IsRightChange, next_pairs, IsRightAsk, past_of, Runs, KeepsParity}
 use Rattle.pc_bst.specs.PlainCells.{PlainWords, cells_of, kept}
 use Rattle.pc_bst.specs.PlainRuns.{IsFitting, CanMake, IsMade, ComesTo, RunsRight}
 use Rattle.pc_bst.proofs.KeptCells.{kept_parity}
@@ -31,9 +31,9 @@ kept_field Spare x ne = refl
 
 kept_but_versions : (slots : ℕ) (c c' : Cells) → ((n : ℕ) (f : Field) → c' n f ≡ kept f (c n f)) → SameButVersions slots c c'
 kept_but_versions slots c c' same = record {
-    fields = λ n f _ ne. same n f ∙ kept_field f (c n f) ne;
-    parity = λ n _. ap (λ (x : ℕ). x % 2) (same n Version) ∙ kept_parity (c n Version)
-  }
+  fields = λ n f _ ne. same n f ∙ kept_field f (c n f) ne;
+  parity = λ n _. ap (λ (x : ℕ). x % 2) (same n Version) ∙ kept_parity (c n Version);
+}
 
 right_fits : (sound : ℕ → Cells → Pairs → Type 0) (slots : ℕ) (c : Cells) (past : List Event) (next : Pairs) (p : Planned) (slot : ℕ) → IsRightChange sound slots c past next p slot → IsFitting slots c p slot
 right_fits sound slots c past next p slot right = record { parity = right.parity; marked = right.marked; words = right.words; fresh = right.fresh }
@@ -58,7 +58,7 @@ module _ {P C : Type 0} (start : C → P) (moves : P → Told → P × Ask) (can
   pub comes_right : (ask : Ask) (come : ComesTo start moves w call ask) (ps : Pairs) → sound w.slots (cells_of w) ps → IsRightAsk sound w.slots (cells_of w) ps (call_of call) (past_of start moves call come.0) ask
   comes_right ask come ps is_sound =
       subst (λ (a : Ask). IsRightAsk sound w.slots (cells_of w) ps (call_of call) (past_of start moves call come.0) a) come.2
-        (runs.goes w.slots (cells_of w) ps call come.0 (record { few = few; fits = fits; is_sound = is_sound }) can come.1)
+      (runs.goes w.slots (cells_of w) ps call come.0 (record { few = few; fits = fits; is_sound = is_sound }) can come.1)
 
   pub comes_to_make : (p : Planned) → ComesTo start moves w call (Change p) → (ps : Pairs) → sound w.slots (cells_of w) ps → CanMake w p
   comes_to_make p come ps is_sound slot takes =

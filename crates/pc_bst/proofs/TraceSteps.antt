@@ -1,12 +1,12 @@
 -- A trace one turn longer, and what a plan's law says of the ask that a trace leads to.
-use Rattle.std.proofs.Common.{◌≡◌, ℕ, zero, suc, ◌+◌, ◌*◌, ◌<◌, ◌≤◌, List, [], ◌∷◌, ◌++◌, length, Option, refl, sym, ap, ◌∙◌, subst, arith, length-append}
+use Rattle.std.proofs.Common.{◌≡◌, ℕ, ◌+◌, ◌*◌, ◌<◌, List, [], ◌∷◌, ◌++◌, length, Option, refl, sym, ap, ◌∙◌, subst, length-append}
 use Rattle.pc_model.specs.declared.call.Call.{Call}
 use Rattle.pc_model.specs.declared.cell.Field.{Field}
 use Rattle.pc_model.specs.declared.cell.Field.TheVariants.{Version as VersionField}
 use Rattle.pc_model.specs.Map.{Pairs}
-use Rattle.pc_model.specs.Cells.{Cells, IsEven, IsNode}
+use Rattle.pc_model.specs.Cells.{Cells, IsEven}
 use Rattle.pc_bst.specs.declared.plan.Ask.{Ask}
-use Rattle.pc_bst.specs.declared.plan.Ask.TheVariants.{Visit, Read, Change, Answer}
+use Rattle.pc_bst.specs.declared.plan.Ask.TheVariants.{Visit, Read}
 use Rattle.pc_bst.specs.declared.plan.Told.{Told}
 use Rattle.pc_bst.specs.declared.plan.Told.TheVariants.{Begin, Version, Number}
 use Rattle.pc_bst.specs.Traces.{after, Agrees, Tells}
@@ -49,7 +49,7 @@ module _ {P C : Type 0} (start : C → P) (moves : P → Told → P × Ask) (c :
           trace = come.trace ++ t ∷ [];
           agrees = agrees_more moves c s come.trace t come.agrees (subst (λ (a : Ask). Tells c a t) (sym ask_reached) tells);
           leads = ap (λ (p : P). moves p t) (sym state) ∙ sym (after_more moves s come.trace t);
-          long = length-append come.trace (t ∷ []) ∙ ap (λ (n : ℕ). n + 1) come.long
+          long = length-append come.trace (t ∷ []) ∙ ap (λ (n : ℕ). n + 1) come.long;
         }
 
     module _ (can_call : C → Type 0) (call_of : C → Option Call) (sound : ℕ → Cells → Pairs → Type 0) (runs : Runs start moves can_call call_of sound) (slots : ℕ) (ps : Pairs)

@@ -1,11 +1,11 @@
 -- What a run of a plan on plain cells does to them, and what it answers.
-use Rattle.std.specs.Prelude.{◌≡◌, ℕ, ◌+◌, ◌*◌, ◌%◌, ◌<◌, ◌≤◌, ◌==◌, nat_le, ◌&&◌, if◌then◌else◌, List, [], ◌∷◌, ◌++◌, map, length, Option, Some, None, IsSome, IfSome, option_to_list}
+use Rattle.std.specs.Prelude.{◌≡◌, ℕ, ◌+◌, ◌*◌, ◌%◌, ◌<◌, ◌≤◌, nat_le, ◌&&◌, List, [], ◌∷◌, ◌++◌, length, Option, IsSome, IfSome, option_to_list}
 use Rattle.pc_model.specs.declared.call.Call.{Call}
 use Rattle.pc_model.specs.declared.call.Reply.{Reply}
 use Rattle.pc_model.specs.declared.cell.Field.{Field}
 use Rattle.pc_model.specs.declared.cell.Field.TheVariants.{Version as VersionField}
 use Rattle.pc_model.specs.Map.{Pairs}
-use Rattle.pc_model.specs.Cells.{Cells, IsEven, IsSlot, IsNode, written, opening_fields}
+use Rattle.pc_model.specs.Cells.{Cells, IsEven, IsSlot, written, opening_fields}
 use Rattle.pc_model.specs.Counts.{count, one_if}
 use Rattle.pc_model.specs.Exchanges.{applied, with_fresh}
 use Rattle.pc_bst.specs.declared.change.Add.{Add}

@@ -7,16 +7,16 @@
 
 mod change;
 mod plain;
-mod plan;
-mod run;
 #[cfg(test)]
 mod plain_tests;
+mod plan;
+mod run;
 mod tree_pairs;
 mod walk;
 mod words;
 
 pub use change::{Add, Change, Fresh, To};
-pub use tree_pairs::pairs;
 pub use plain::{NoPlainSlot, PlainCells};
 pub use plan::{Ask, Plan, Told};
 pub use run::run_plan;
+pub use tree_pairs::pairs;

@@ -83,7 +83,12 @@ fn write_fresh(words: &mut Vec<u64>, slot: u32, version: u64, fresh: Fresh)
     ensures long { length words.new.items ≡ length words.old.items }
     ensures parent { fresh.parent < 2 ^ 32 }
 {
-    write(words, slot, Field::Version, kept_number(Field::Version, version + 1));
+    write(
+        words,
+        slot,
+        Field::Version,
+        kept_number(Field::Version, version + 1),
+    );
     write(words, slot, Field::Key, fresh.key);
     write(words, slot, Field::Value, fresh.value);
     write(words, slot, Field::Left, 0);

@@ -1,9 +1,6 @@
-use Rattle.std.proofs.Common.{◌≡◌, ◌*◌, ◌+◌, ◌<◌, ◌≤◌, ℕ, refl, sym, ◌∙◌, subst, arith}
-use Rattle.pc_model.specs.Map.{Pairs}
-use Rattle.pc_model.specs.Cells.{IsNode, IsEven}
+use Rattle.std.proofs.Common.{◌≡◌, ◌*◌, ◌+◌, ◌<◌, ◌≤◌, sym, ◌∙◌, subst, arith}
 use Rattle.pc_bst.specs.declared.plan.Ask.{Ask}
 use Rattle.pc_bst.specs.declared.plan.Ask.TheVariants.{Visit, Read, Change, Answer}
-use Rattle.pc_model.specs.declared.cell.Field.TheVariants.{Version as VersionField}
 use Rattle.pc_bst.specs.declared.plan.Told.{Told}
 use Rattle.pc_bst.specs.declared.plan.Told.TheVariants.{Version, Number}
 use Rattle.pc_bst.specs.Runs.{IsRightAsk, past_of}
@@ -19,18 +16,21 @@ right : (g : Over) (c : After-next g) (ask : Ask) → c.next.result ≡ ask
     → IsRightAsk g.P.Plan.sound c.args.cells.now.slots (cells_of c.args.cells.now) c.requires.sound.0 (g.P.Plan.call_of c.args.call) (past_of g.P.Plan.start g.P.Plan.moves c.args.call c.loop-turn.invariant.trace) ask
 right g c ask e =
     subst (λ (a : Ask). IsRightAsk g.P.Plan.sound c.args.cells.now.slots (cells_of c.args.cells.now) c.requires.sound.0 (g.P.Plan.call_of c.args.call) (past_of g.P.Plan.start g.P.Plan.moves c.args.call c.loop-turn.invariant.trace) a) e
-      (ask_right g.P.Plan.start g.P.Plan.moves (cells_of c.args.cells.now) c.args.call c.loop-turn.plan c.loop-turn.told c.loop-turn._turn c.loop-turn.invariant c.next.new.self c.next.result c.next.ensures
-        g.P.Plan.can_call g.P.Plan.call_of g.P.Plan.sound g.met.P.Plan.runs c.args.cells.now.slots c.requires.sound.0 (record { few = c.slots.ensures.few; fits = c.slots.ensures.fits; is_sound = c.requires.sound.1 }) c.requires.call)
+    (ask_right g.P.Plan.start g.P.Plan.moves (cells_of c.args.cells.now) c.args.call c.loop-turn.plan c.loop-turn.told c.loop-turn._turn c.loop-turn.invariant c.next.new.self c.next.result c.next.ensures
+    g.P.Plan.can_call g.P.Plan.call_of g.P.Plan.sound g.met.P.Plan.runs c.args.cells.now.slots c.requires.sound.0 (record { few = c.slots.ensures.few; fits = c.slots.ensures.fits; is_sound = c.requires.sound.1 }) c.requires.call)
 
 comes : (g : Over) (c : After-next g) (ask : Ask) → c.next.result ≡ ask → ComesTo g.P.Plan.start g.P.Plan.moves c.args.cells.now c.args.call ask
-comes g c ask e = (c.loop-turn.invariant.trace, c.loop-turn.invariant.agrees,
-    ask_reached g.P.Plan.start g.P.Plan.moves (cells_of c.args.cells.now) c.args.call c.loop-turn.plan c.loop-turn.told c.loop-turn._turn c.loop-turn.invariant c.next.new.self c.next.result c.next.ensures ∙ e)
+comes g c ask e = (
+  c.loop-turn.invariant.trace,
+  c.loop-turn.invariant.agrees,
+  ask_reached g.P.Plan.start g.P.Plan.moves (cells_of c.args.cells.now) c.args.call c.loop-turn.plan c.loop-turn.told c.loop-turn._turn c.loop-turn.invariant c.next.new.self c.next.result c.next.ensures ∙ e,
+)
 
 further : (g : Over) (c : After-next g) (ask : Ask) (t : Told) → c.next.result ≡ ask → Tells (cells_of c.args.cells.now) ask t
     → HasCome g.P.Plan.start g.P.Plan.moves (cells_of c.args.cells.now) c.args.call c.next.new.self t (c.loop-turn._turn + 1)
 further g c ask t e tells =
     come_further g.P.Plan.start g.P.Plan.moves (cells_of c.args.cells.now) c.args.call c.loop-turn.plan c.loop-turn.told c.loop-turn._turn c.loop-turn.invariant c.next.new.self c.next.result c.next.ensures t
-      (subst (λ (a : Ask). Tells (cells_of c.args.cells.now) a t) (sym e) tells)
+    (subst (λ (a : Ask). Tells (cells_of c.args.cells.now) a t) (sym e) tells)
 
 pub loop-turn-init : goal.loop-turn-init
 loop-turn-init g c = come_at_first g.P.Plan.start g.P.Plan.moves (cells_of c.args.cells.now) c.args.call c.begin-plan.result c.begin-plan.ensures
@@ -51,19 +51,19 @@ pub loop-turn-preserved : goal.loop-turn-preserved
 loop-turn-preserved g c =
     let b : After-next g = (goal.at.loop-turn-preserved g c).After-next in
     elim c.match-next.branch [
-      in-Visit w ↦
-        rw w.told-is (further g b (Visit w.in-Visit.node) (Version w.word.result) w.in-Visit.is
+      | in-Visit w ↦
+          rw w.told-is (further g b (Visit w.in-Visit.node) (Version w.word.result) w.in-Visit.is
           (told_version (cells_of c.args.cells.now) w.in-Visit.node w.word.result w.word.ensures.value (right g b (Visit w.in-Visit.node) w.in-Visit.is).1))
-    | in-Read w ↦
-        rw w.told-is (further g b (Read w.in-Read.node w.in-Read.field) (Number w.word-in-Read.result) w.in-Read.is
+      | in-Read w ↦
+          rw w.told-is (further g b (Read w.in-Read.node w.in-Read.field) (Number w.word-in-Read.result) w.in-Read.is
           (told_number (cells_of c.args.cells.now) w.in-Read.node w.in-Read.field w.word-in-Read.result w.word-in-Read.ensures.value))
     ]
 
 pub unreachable-requires : goal.unreachable-requires
 unreachable-requires g c =
     let before : c.loop-turn._turn < 9 * (c.args.cells.now.slots + 2)
-      = ends_before g.P.Plan.start g.P.Plan.moves (cells_of c.args.cells.now) c.args.call g.P.Plan.can_call g.P.Plan.call_of g.P.Plan.sound g.met.P.Plan.runs c.args.cells.now.slots c.requires.sound.0 (record { few = c.slots.ensures.few; fits = c.slots.ensures.fits; is_sound = c.requires.sound.1 }) c.requires.call
-        c.loop-turn.plan c.loop-turn.told c.loop-turn._turn c.loop-turn.invariant in
+    = ends_before g.P.Plan.start g.P.Plan.moves (cells_of c.args.cells.now) c.args.call g.P.Plan.can_call g.P.Plan.call_of g.P.Plan.sound g.met.P.Plan.runs c.args.cells.now.slots c.requires.sound.0 (record { few = c.slots.ensures.few; fits = c.slots.ensures.fits; is_sound = c.requires.sound.1 }) c.requires.call
+    c.loop-turn.plan c.loop-turn.told c.loop-turn._turn c.loop-turn.invariant in
     let same : c.slots.result ≡ c.args.cells.now.slots = c.slots.ensures.same in
     let past : 9 * (c.slots.result + 2) ≤ c.loop-turn._turn = c.loop-turn-test.false in
     omega arith

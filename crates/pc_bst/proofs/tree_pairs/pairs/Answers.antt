@@ -1,4 +1,4 @@
-use Rattle.std.proofs.Common.{◌≡◌, ◌+◌, ◌≤◌, ◌∷◌, [], ◌++◌, length, vec_len, sym, ap, ◌∙◌, subst, arith}
+use Rattle.std.proofs.Common.{◌≡◌, ◌+◌, ◌≤◌, ◌∷◌, [], ◌++◌, length, vec_len, sym, ap, ◌∙◌, arith}
 use Rattle.std.proofs.lemmas.Grind.{common_steps}
 use Rattle.std.proofs.lemmas.List.{nil_from_length}
 use Rattle.pc_model.specs.Cells.{IsSlot}
@@ -15,7 +15,7 @@ gone_left : (c : After-word-link-then-link-ne0) → IsListing c.args.cells.now.s
 gone_left c =
     let pushed : c.push.new.self.items ≡ c.walk.waiting.items ++ c.walk.link ∷ [] = grind (arith, common_steps) in
     rw (c.word-link-then-link-ne0.ensures.value, pushed)
-      (listing_left c.args.cells.now.slots (cells_of c.args.cells.now) c.walk.listed.items c.walk.link c.walk.waiting.items c.walk.invariant c.if-link-ne0.true)
+    (listing_left c.args.cells.now.slots (cells_of c.args.cells.now) c.walk.listed.items c.walk.link c.walk.waiting.items c.walk.invariant c.if-link-ne0.true)
 
 at_last : (c : In-Some) → IsListing c.args.cells.now.slots (cells_of c.args.cells.now) c.walk.listed.items 0 (c.pop.new.self.items ++ c.in-Some.node ∷ [])
 at_last c = rw (← c.if-link-ne0.false, ← c.in-Some.ensures.items) c.walk.invariant
@@ -35,7 +35,7 @@ word-link-requires-then-link-ne0 c = (link_slot (goal.at.word-link-requires-then
 pub walk-smaller-then-link-ne0 : goal.walk-smaller-then-link-ne0
 walk-smaller-then-link-ne0 c =
     let few : length c.walk.listed.items + length c.push.new.self.items ≤ c.args.cells.now.slots
-      = listing_few c.args.cells.now.slots (cells_of c.args.cells.now) c.walk.listed.items c.word-link-then-link-ne0.result c.push.new.self.items (gone_left c) in
+    = listing_few c.args.cells.now.slots (cells_of c.args.cells.now) c.walk.listed.items c.word-link-then-link-ne0.result c.push.new.self.items (gone_left c) in
     let pushed : vec_len c.push.new.self ≡ vec_len c.walk.waiting + 1 = grind (arith, common_steps) in
     let a : vec_len c.push.new.self ≡ length c.push.new.self.items = c.push.new.self.ok.0 in
     let b : vec_len c.walk.listed ≡ length c.walk.listed.items = c.walk.listed.ok.0 in
@@ -62,7 +62,7 @@ word-link-requires-else-link-ne0 c = (last_slot (goal.at.word-link-requires-else
 pub walk-smaller : goal.walk-smaller
 walk-smaller c =
     let few : length c.walk.listed.items + length (c.pop.new.self.items ++ c.in-Some.node ∷ []) ≤ c.args.cells.now.slots
-      = listing_few c.args.cells.now.slots (cells_of c.args.cells.now) c.walk.listed.items 0 (c.pop.new.self.items ++ c.in-Some.node ∷ []) (at_last (goal.at.walk-smaller c).In-Some) in
+    = listing_few c.args.cells.now.slots (cells_of c.args.cells.now) c.walk.listed.items 0 (c.pop.new.self.items ++ c.in-Some.node ∷ []) (at_last (goal.at.walk-smaller c).In-Some) in
     let popped : vec_len c.pop.new.self + 1 ≡ vec_len c.walk.waiting = c.in-Some.ensures.cases in
     let pushed : vec_len c.push-else-link-ne0.new.self ≡ vec_len c.walk.listed + 1 = grind (arith, common_steps) in
     let a : vec_len c.walk.waiting ≡ length c.walk.waiting.items = c.walk.waiting.ok.0 in
@@ -73,7 +73,7 @@ walk-smaller c =
 pub walk-preserved : goal.walk-preserved
 walk-preserved c =
     let pushed : c.push-else-link-ne0.new.self.items ≡ c.walk.listed.items ++ pair_of (cells_of c.args.cells.now) c.in-Some.node ∷ []
-      = (let e : c.push-else-link-ne0.new.self.items ≡ c.walk.listed.items ++ (c.word.result, c.word-else-link-ne0.result) ∷ [] = grind (arith, common_steps) in e)
-        ∙ (λ i. c.walk.listed.items ++ (c.word.ensures.value i, c.word-else-link-ne0.ensures.value i) ∷ []) in
+    = (let e : c.push-else-link-ne0.new.self.items ≡ c.walk.listed.items ++ (c.word.result, c.word-else-link-ne0.result) ∷ [] = grind (arith, common_steps) in e)
+    ∙ (λ i. c.walk.listed.items ++ (c.word.ensures.value i, c.word-else-link-ne0.ensures.value i) ∷ []) in
     rw (c.word-link-else-link-ne0.ensures.value, pushed)
-      (listing_right c.args.cells.now.slots (cells_of c.args.cells.now) c.walk.listed.items c.pop.new.self.items c.in-Some.node (at_last (goal.at.walk-preserved c).In-Some))
+    (listing_right c.args.cells.now.slots (cells_of c.args.cells.now) c.walk.listed.items c.pop.new.self.items c.in-Some.node (at_last (goal.at.walk-preserved c).In-Some))

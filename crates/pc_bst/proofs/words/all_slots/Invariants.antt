@@ -5,7 +5,7 @@ use Rattle.pc_bst.proofs.words.all_slots.Given as goal
 
 abbrev pub invariant-loop-pushed : goal.invariant-loop-pushed
 invariant-loop-pushed l = record {
-    long : vec_len l.free ≡ l.pushed;
-    room : vec_capacity l.free ≡ l.slots;
-    counts : (n : ℕ) → count n l.free.items ≡ one_if (is_among_last l.slots l.pushed n)
-  }
+  long : vec_len l.free ≡ l.pushed;
+  room : vec_capacity l.free ≡ l.slots;
+  counts : (n : ℕ) → count n l.free.items ≡ one_if (is_among_last l.slots l.pushed n);
+}
