@@ -9,7 +9,7 @@ use Rattle.pc_model.proofs.Counting.{count-here, count-append}
 use Rattle.pc_bst.specs.declared.change.Fresh.{Fresh}
 use Rattle.pc_bst.specs.Runs.{fresh_fields, fresh_at}
 use Rattle.pc_bst.specs.PlainCells.{cells_in, AreBelowLimits, kept, kept_cells}
-use Rattle.pc_bst.specs.PlainRuns.{TakesSlot}
+use Rattle.pc_bst.specs.PlainWriting.{TakesSlot}
 use Rattle.pc_bst.proofs.KeptCells.{kept_node, kept_same}
 
 -- the last of a stack is counted

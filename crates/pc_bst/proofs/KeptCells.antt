@@ -12,7 +12,7 @@ use Rattle.pc_bst.specs.declared.change.Add.{Add}
 use Rattle.pc_bst.specs.declared.change.Fresh.{Fresh}
 use Rattle.pc_bst.specs.Runs.{number_at, change_at, fresh_fields, FitsWord, AreWordsOf, FreshFits}
 use Rattle.pc_bst.specs.PlainCells.{limit, AreBelowLimits, kept, kept_cells}
-use Rattle.pc_bst.specs.PlainRuns.{with_adds}
+use Rattle.pc_bst.specs.PlainWriting.{with_adds}
 
 -- the field with a number
 abbrev field_at : ℕ → Field

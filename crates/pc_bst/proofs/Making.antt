@@ -12,7 +12,8 @@ use Rattle.pc_bst.specs.declared.change.Fresh.{Fresh}
 use Rattle.pc_bst.specs.Planned.{Planned}
 use Rattle.pc_bst.specs.Runs.{Takes, AreWordsOf, FreshFits, fresh_at, fresh_fields, taken_by, slot_taken, is_slot, parity_after}
 use Rattle.pc_bst.specs.PlainCells.{PlainWords, cells_in, cells_of, AreBelowLimits, is_free, IsSoundPlain, kept, kept_cells}
-use Rattle.pc_bst.specs.PlainRuns.{with_adds, AddsReach, TakesSlot, IsFitting, CanMake, IsMade, changed_cells}
+use Rattle.pc_bst.specs.PlainRuns.{IsFitting, CanMake, IsMade, changed_cells}
+use Rattle.pc_bst.specs.PlainWriting.{with_adds, AddsReach, TakesSlot}
 use Rattle.pc_bst.proofs.KeptCells.{kept_same, kept_node, kept_adds, kept_parity, below_node, below_adds, fresh_below}
 use Rattle.pc_bst.proofs.FreeSlots.{last_counted}
 

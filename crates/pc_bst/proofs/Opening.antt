@@ -10,7 +10,7 @@ use Rattle.pc_model.specs.Counts.{count, one_if}
 use Rattle.pc_model.specs.Trees.{Empty, plain, IsSearchTree}
 use Rattle.pc_model.proofs.Counting.{count-append}
 use Rattle.pc_bst.specs.PlainCells.{cells_in, limit, AreBelowLimits, is_free, IsSoundPlain}
-use Rattle.pc_bst.specs.PlainRuns.{OpensCells, HasEachSlot}
+use Rattle.pc_bst.specs.PlainWriting.{OpensCells, HasEachSlot}
 
 -- whether a slot is among the greatest slots, so many of them
 abbrev pub is_among_last : ℕ → ℕ → ℕ → Bool

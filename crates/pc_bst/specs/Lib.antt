@@ -2,6 +2,7 @@ pub mod Lawful
 pub mod PlainCells
 pub mod PlainPairs
 pub mod PlainRuns
+pub mod PlainWriting
 pub mod Planned
 pub mod RunEnds
 pub mod Runs
