@@ -1,7 +1,7 @@
 -- How many pairs a call leaves: at most one more, and that for a put alone.
-use Rattle.std.proofs.Common.{◌≡◌, ℕ, zero, suc, ◌+◌, ◌<◌, ◌≤◌, ◌==◌, ⊎_elim, if◌then◌else◌, Bool, true, false, List, [], ◌∷◌, ◌++◌, length, take, subst, sym, arith}
+use Rattle.std.proofs.Common.{◌≡◌, ℕ, zero, suc, ◌+◌, ◌≤◌, ◌==◌, if◌then◌else◌, Bool, true, false, List, [], ◌∷◌, ◌++◌, length, take, arith}
 use Rattle.std.specs.Prelude.{nat_lt}
-use Rattle.std.proofs.lemmas.Bool.{cases_Bool, cond_both}
+use Rattle.std.proofs.lemmas.Bool.{cond_both}
 use Rattle.pc_model.specs.declared.call.Call.{Call}
 use Rattle.pc_model.specs.declared.call.Call.TheVariants.{Put, Get, Remove, Ceil, Floor}
 use Rattle.pc_model.specs.Counts.{one_if}
@@ -12,8 +12,8 @@ pub length-put : (k v : ℕ) (ps : Pairs) → length (put k v ps) ≤ suc (lengt
 length-put k v [] = omega arith
 length-put k v (p ∷ ps) = let ih : length (put k v ps) ≤ suc (length ps) = length-put k v ps in
     cond_both (nat_lt k p.0) ((k, v) ∷ p ∷ ps) (if k == p.0 then (k, v) ∷ ps else p ∷ put k v ps) (λ (x : Pairs). length x ≤ suc (suc (length ps)))
-      (λ _. omega arith)
-      (λ _. cond_both (k == p.0) ((k, v) ∷ ps) (p ∷ put k v ps) (λ (x : Pairs). length x ≤ suc (suc (length ps))) (λ _. omega arith) (λ _. omega arith))
+    (λ _. omega arith)
+    (λ _. cond_both (k == p.0) ((k, v) ∷ ps) (p ∷ put k v ps) (λ (x : Pairs). length x ≤ suc (suc (length ps))) (λ _. omega arith) (λ _. omega arith))
 
 pub length-without : (k : ℕ) (ps : Pairs) → length (without k ps) ≤ length ps
 length-without k [] = omega arith
