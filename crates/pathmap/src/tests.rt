@@ -1,0 +1,158 @@
+//! What `serve` answers and prints, over sources and sinks in memory.
+ghost use Rattle.std.specs.Prelude.{◌≤◌};
+
+use super::*;
+use pc_edge::{MemorySink, MemorySource};
+use std::sync::Wait;
+use std::test::Fail;
+use std::thread::Threads;
+
+// A source whose reads give at most so many bytes, and fail at the listed numbers.
+fn source_of(bytes: Vec<u8>, piece: usize, fails: Vec<u64>) -> MemorySource
+    requires { 1 ≤ piece }
+{
+    MemorySource {
+        bytes,
+        at: 0,
+        piece,
+        fails,
+        calls: 0,
+        faults: 0,
+    }
+}
+
+fn strings_of(alloc: Global, words: &[&str]) -> Result<Vec<String>, AllocError> {
+    let mut strings = Vec::new(alloc);
+    for word in words {
+        strings.push(String::from_str(alloc, word)?)?;
+    }
+    Ok(strings)
+}
+
+fn spaces(alloc: Global, count: usize) -> Result<Vec<u8>, AllocError> {
+    vec![in alloc; b' '; count]
+}
+
+fn gets(alloc: Global, count: usize) -> Result<Vec<u8>, AllocError> {
+    let mut bytes = Vec::new(alloc);
+    for _ in 0..count {
+        bytes.extend_from_slice(b"get 1\n")?;
+    }
+    Ok(bytes)
+}
+
+// Serves a source with the one word and an open gate.
+fn status_of_run<R: Threads + Wait + Sync>(
+    rt: &R,
+    alloc: Global,
+    source: &mut MemorySource,
+    sink: &mut MemorySink,
+) -> Result<u8, AllocError> {
+    let words = strings_of(alloc, &["pathmap"])?;
+    Ok(serve(rt, alloc, &words, source, sink, &OpenGate).status)
+}
+
+#[test]
+fn each_input_has_its_status_and_output(rt: HostRuntime) -> Result<(), Fail> {
+    let alloc = rt.alloc();
+    let rows: [(&str, u8, &str); 11] = [
+        ("", 0, "left 0\nend\n"),
+        (
+            "put 5 50\nget 5\n",
+            0,
+            "1 1.1 put 5 50 = new\n2 1.2 get 5 = 50\nleft 1\n5 50\nend\n",
+        ),
+        (
+            "put 5 1\nput 5 2\n",
+            0,
+            "1 1.1 put 5 1 = new\n2 1.2 put 5 2 = was 1\nleft 1\n5 2\nend\n",
+        ),
+        (
+            "put 0 0\nput 999999999999999999 999999999999999999\n",
+            0,
+            "1 1.1 put 0 0 = new\n2 1.2 put 999999999999999999 999999999999999999 = new\nleft 2\n0 0\n999999999999999999 999999999999999999\nend\n",
+        ),
+        (
+            "put 3 30\nput 1 10\nput 2 20\nget 2\nget 4\n",
+            0,
+            "1 1.1 put 3 30 = new\n2 1.2 put 1 10 = new\n3 1.3 put 2 20 = new\n4 1.4 get 2 = 20\n5 1.5 get 4 = none\nleft 3\n1 10\n2 20\n3 30\nend\n",
+        ),
+        ("remove 5\n", 3, "fault not built\n"),
+        ("get 5", 3, "fault not built\n"),
+        ("put  5 1\n", 3, "fault not built\n"),
+        ("put 1000000000000000000 1\n", 3, "fault not built\n"),
+        ("get +1\n", 3, "fault not built\n"),
+        ("# note\n", 3, "fault not built\n"),
+    ];
+    for (input, status, output) in rows {
+        let bytes = Vec::from_slice(alloc, input.as_bytes())?;
+        let mut source = source_of(bytes, 1000, Vec::new(alloc));
+        let mut sink = MemorySink::with_room(alloc, 1000, 1000).expect(&rt, "ample memory");
+        let answer = status_of_run(&rt, alloc, &mut source, &mut sink)?;
+        assert_eq!(rt; answer, status, "{input}");
+        assert_eq!(rt; sink.held.as_slice(), output.as_bytes(), "{input}");
+    }
+    Ok(())
+}
+
+#[test]
+fn other_words_are_a_usage_fault(rt: HostRuntime) -> Result<(), Fail> {
+    let alloc = rt.alloc();
+    let rows: [(&[&str], usize, usize, &str); 3] = [
+        (&["pathmap", "--tree"], 1000, 1000, "fault usage\n"),
+        (&[], 1000, 1000, "fault usage\n"),
+        (&["pathmap", "--tree"], 3, 1, "fau"),
+    ];
+    for (words, room, piece, output) in rows {
+        assert!(rt; piece >= 1);
+        let words = strings_of(alloc, words)?;
+        let mut source = source_of(Vec::from_slice(alloc, b"get 5\n")?, 1, Vec::new(alloc));
+        let mut sink = MemorySink::with_room(alloc, room, piece).expect(&rt, "ample memory");
+        let outcome = serve(&rt, alloc, &words, &mut source, &mut sink, &OpenGate);
+        assert_eq!(rt; outcome.status, 2);
+        assert_eq!(rt; sink.held.as_slice(), output.as_bytes());
+        assert_eq!(rt; source.calls, 0);
+    }
+    Ok(())
+}
+
+#[test]
+fn a_failed_read_and_a_full_sink_end_the_run(rt: HostRuntime) -> Result<(), Fail> {
+    let alloc = rt.alloc();
+    let fails = Vec::from_slice(alloc, &[2])?;
+    let mut source = source_of(Vec::from_slice(alloc, b"get 5")?, 1, fails);
+    let mut sink = MemorySink::with_room(alloc, 1000, 1000).expect(&rt, "ample memory");
+    assert_eq!(rt; status_of_run(&rt, alloc, &mut source, &mut sink)?, 4);
+    assert_eq!(rt; sink.held.as_slice(), b"fault read\n".as_slice());
+    let bytes = Vec::from_slice(alloc, b"put 5 50\nget 5\n")?;
+    let mut source = source_of(bytes, 1, Vec::new(alloc));
+    let mut full = MemorySink::with_room(alloc, 0, 1000).expect(&rt, "ample memory");
+    assert_eq!(rt; status_of_run(&rt, alloc, &mut source, &mut full)?, 5);
+    assert_eq!(rt; full.held.len(), 0);
+    Ok(())
+}
+
+#[test]
+fn at_most_a_byte_past_the_limit_is_read(rt: HostRuntime) -> Result<(), Fail> {
+    let alloc = rt.alloc();
+    let mut source = source_of(spaces(alloc, 4_194_305)?, 1_000_000, Vec::new(alloc));
+    let mut sink = MemorySink::with_room(alloc, 1000, 1000).expect(&rt, "ample memory");
+    assert_eq!(rt; status_of_run(&rt, alloc, &mut source, &mut sink)?, 3);
+    assert_eq!(rt; sink.held.as_slice(), b"fault not built\n".as_slice());
+    assert!(rt; source.at <= 4_194_305);
+    Ok(())
+}
+
+#[test]
+fn a_script_has_at_most_60_000_commands(rt: HostRuntime) -> Result<(), Fail> {
+    let alloc = rt.alloc();
+    let mut source = source_of(gets(alloc, 60_000)?, 1_000_000, Vec::new(alloc));
+    let mut sink = MemorySink::with_room(alloc, 2_000_000, 1_000_000).expect(&rt, "ample memory");
+    assert_eq!(rt; status_of_run(&rt, alloc, &mut source, &mut sink)?, 0);
+    assert!(rt; sink.held.as_slice().starts_with(b"1 1.1 get 1 = none\n"));
+    let mut source = source_of(gets(alloc, 60_001)?, 1_000_000, Vec::new(alloc));
+    let mut sink = MemorySink::with_room(alloc, 1000, 1000).expect(&rt, "ample memory");
+    assert_eq!(rt; status_of_run(&rt, alloc, &mut source, &mut sink)?, 3);
+    assert_eq!(rt; sink.held.as_slice(), b"fault not built\n".as_slice());
+    Ok(())
+}
