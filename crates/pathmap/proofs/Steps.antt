@@ -8,7 +8,9 @@ use Rattle.pc_model.specs.Map.{Pairs, IsRising, reply_of, pairs_after}
 use Rattle.pc_model.specs.Replay.{fold_of}
 use Rattle.pc_model.proofs.Histories.{IsNumberedFrom_push, AllOfPass_push, calls_of-push, one_client_history}
 use Rattle.pc_model.proofs.Replaying.{fold_from-push, right_push}
-use Rattle.pc_model.proofs.Sizes.{length-pairs_after}
+use Rattle.pc_model.proofs.Sizes.{length-pairs_after, puts_in-push}
+use Rattle.pc_model.specs.Counts.{one_if}
+use Rattle.pc_model.specs.Calls.{is_put, puts_in}
 use Rattle.pc_bst.specs.PlainCells.{PlainWords, cells_of, IsEmptyTree}
 use Rattle.pc_bst.specs.PlainTrees.{IsPlainTree}
 use Rattle.pathmap.specs.Running.{IsOneHistory, HasRoom, AnswersAs, HasRun}
@@ -24,8 +26,8 @@ pub as_long : (slots : ℕ) (calls : List Call) (w : PlainWords) (history : List
 as_long slots calls w history h = sym (length-map history (λ (e : Entry). e.call)) ∙ ap length h.in_order
 
 -- there is room while fewer calls were run than there are slots
-pub room_left : (slots : ℕ) (calls : List Call) (w : PlainWords) (history : List Entry) → HasRun slots calls w history → length calls < slots → HasRoom w
-room_left slots calls w history h lt = let few : length (fold_of history) ≤ length calls = h.few in let size : w.slots ≡ slots = h.size in (fold_of history, h.tree, omega arith)
+pub room_left : (slots : ℕ) (calls : List Call) (w : PlainWords) (history : List Entry) → HasRun slots calls w history → puts_in calls < slots → HasRoom w
+room_left slots calls w history h lt = let few : length (fold_of history) ≤ puts_in calls = h.few in let size : w.slots ≡ slots = h.size in (fold_of history, h.tree, omega arith)
 
 pub one_more : (slots : ℕ) (calls : List Call) (w w' : PlainWords) (history : List Entry) (call : Call) (r : Reply) (place : ℕ) → HasRun slots calls w history
     → AnswersAs call w w' r → w'.slots ≡ w.slots → length history ≡ place → HasRun slots (calls ++ (call ∷ [])) w' (history ++ (entry_at place call r ∷ []))
@@ -34,9 +36,9 @@ one_more slots calls w w' history call r place h answers size at =
     let answered : (r ≡ reply_of call (fold_of history)) × IsPlainTree w'.slots (cells_of w') (pairs_after call (fold_of history)) = answers (fold_of history) h.tree in
     let fold : fold_of (history ++ (e ∷ [])) ≡ pairs_after call (fold_of history) = fold_from-push [] history e in
     let number : e.number ≡ 1 + length history = omega arith in
-    let more : length (pairs_after call (fold_of history)) ≤ suc (length (fold_of history)) = length-pairs_after call (fold_of history) in
-    let few : length (fold_of history) ≤ length calls = h.few in
-    let long : length (calls ++ (call ∷ [])) ≡ length calls + 1 = length-append calls (call ∷ []) in
+    let more : length (pairs_after call (fold_of history)) ≤ one_if (is_put call) + length (fold_of history) = length-pairs_after call (fold_of history) in
+    let few : length (fold_of history) ≤ puts_in calls = h.few in
+    let puts : puts_in (calls ++ (call ∷ [])) ≡ puts_in calls + one_if (is_put call) = puts_in-push calls call in
     let fold_long : length (fold_of (history ++ (e ∷ []))) ≡ length (pairs_after call (fold_of history)) = ap length fold in
     record {
       numbered = IsNumberedFrom_push 1 history e h.numbered number;

@@ -4,6 +4,7 @@ use Rattle.pc_model.specs.declared.call.Call.{Call}
 use Rattle.pc_model.specs.declared.call.Reply.{Reply}
 use Rattle.pc_model.specs.declared.call.Entry.{Entry}
 use Rattle.pc_model.specs.Map.{Pairs, IsRising, reply_of, pairs_after}
+use Rattle.pc_model.specs.Calls.{puts_in}
 use Rattle.pc_model.specs.Replay.{fold_of, IsRight}
 use Rattle.pc_model.specs.History.{IsHistoryOf, IsNumberedFrom, AllOfPass, calls_of}
 use Rattle.pc_bst.specs.PlainCells.{PlainWords, cells_of}
@@ -32,5 +33,5 @@ pub record HasRun (slots : ℕ) (calls : List Call) (w : PlainWords) (history : 
   pub in_order : calls_of history ≡ calls
   pub right : IsRight history
   pub tree : IsPlainTree w.slots (cells_of w) (fold_of history)
-  pub few : length (fold_of history) ≤ length calls
+  pub few : length (fold_of history) ≤ puts_in calls
   pub size : w.slots ≡ slots

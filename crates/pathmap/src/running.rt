@@ -1,5 +1,7 @@
 //! Running the calls of one client, one after another, on plain cells.
 ghost use Rattle.std.specs.Prelude.{◌≡◌, ◌+◌, ◌<◌, ◌≤◌, ◌∷◌, [], length, All, IfOk};
+ghost use Rattle.pc_model.specs.Calls.{is_put, puts_in};
+ghost use Rattle.pc_model.specs.Counts.{one_if};
 ghost use Rattle.pc_text.specs.ScriptFacts.{IsCallInRange, IsPutOrGet};
 ghost use Rattle.pc_bst.specs.PlainCells.{IsEmptyTree};
 ghost use Rattle.pathmap.specs.Running.{IsOneHistory, HasRoom, AnswersAs, HasRun};
@@ -22,16 +24,38 @@ pub fn run_alone(alloc: Global, calls: &[Call]) -> Result<Run, Memory>
     requires plain { All IsPutOrGet calls.now }
     ensures { IfOk result (λ run. IsOneHistory (calls.now ∷ []) run.history.items run.pairs.items) }
 {
-    let mut cells = PlainCells::new(alloc, calls.len() as u32 + 1)?;
+    let mut cells = PlainCells::new(alloc, count_puts(calls) + 1)?;
     let history = run_calls(alloc, &mut cells, calls)?;
     let pairs = pairs(alloc, &cells)?;
     Ok(Run { history, pairs })
 }
 
-// Runs the calls on an empty tree that has a slot for each and one more.
+// How many of the calls are puts: each takes at most one slot.
+fn count_puts(calls: &[Call]) -> u32
+    requires { length calls.now ≤ 60000 }
+    ensures puts { result ≡ puts_in calls.now }
+    ensures few { result ≤ 60000 }
+{
+    let mut puts = 0;
+    for call in calls {
+        puts += one_for_put(call);
+    }
+    puts
+}
+
+fn one_for_put(call: &Call) -> u32
+    ensures { result ≡ one_if (is_put call.now) }
+{
+    match call {
+        Call::Put { .. } => 1,
+        Call::Get { .. } | Call::Remove { .. } | Call::Ceil { .. } | Call::Floor { .. } => 0,
+    }
+}
+
+// Runs the calls on an empty tree that has a slot for each put and one more.
 fn run_calls(alloc: Global, cells: &mut PlainCells, calls: &[Call]) -> Result<Vec<Entry>, Memory>
     requires empty { IsEmptyTree cells.old }
-    requires size { cells.old.slots ≡ length calls.now + 1 }
+    requires size { cells.old.slots ≡ puts_in calls.now + 1 }
     requires few { length calls.now ≤ 60000 }
     requires in_range { All IsCallInRange calls.now }
     requires plain { All IsPutOrGet calls.now }

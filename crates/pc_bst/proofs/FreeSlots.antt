@@ -1,17 +1,15 @@
 -- The stack of the slots out of use: what it tells of a slot that is taken from it, and that it stays
 -- right where a slot is taken and another given.
-use Rattle.std.proofs.Common.{◌≡◌, ℕ, zero, suc, ◌+◌, ◌*◌, ◌%◌, ◌<◌, ◌≤◌, ◌==◌, ◌&&◌, ◌⊎◌, ⊎_elim, if◌then◌else◌, Bool, true, false, cond, List, [], ◌∷◌, ◌++◌, map, length, Option, Some, None, IfSome, IsSome, option_to_list, nat_lt, nat_le, refl, sym, ap, ◌∙◌, subst, arith, length-append}
-use Rattle.std.proofs.lemmas.Bool.{cases_Bool, cases_eq, eqb-true, eq-eqb, leb-true, le-leb, and_parts, and_from, ne_eqb}
-use Rattle.pc_model.specs.declared.cell.Field.{Field}
+use Rattle.std.proofs.Common.{◌≡◌, ℕ, ◌+◌, ◌<◌, List, [], ◌∷◌, ◌++◌, length, Option, Some, sym, ap, ◌∙◌, subst, arith}
 use Rattle.pc_model.specs.declared.cell.Field.TheVariants.{Version}
-use Rattle.pc_model.specs.Cells.{Cells, IsEven, IsOdd, IsNode, IsSlot}
-use Rattle.pc_model.specs.Counts.{count, one_if}
+use Rattle.pc_model.specs.Cells.{Cells}
+use Rattle.pc_model.specs.Counts.{count}
 use Rattle.pc_model.specs.Exchanges.{with_fresh}
-use Rattle.pc_model.proofs.Counting.{count-here, count-append, length-le-slots}
+use Rattle.pc_model.proofs.Counting.{count-here, count-append}
 use Rattle.pc_bst.specs.declared.change.Fresh.{Fresh}
-use Rattle.pc_bst.specs.Runs.{fresh_fields, fresh_at, taken_by}
-use Rattle.pc_bst.specs.PlainCells.{cells_in, AreBelowLimits, is_free, kept, kept_cells}
-use Rattle.pc_bst.specs.PlainRuns.{TakesSlot}
+use Rattle.pc_bst.specs.Runs.{fresh_fields, fresh_at}
+use Rattle.pc_bst.specs.PlainCells.{cells_in, AreBelowLimits, kept, kept_cells}
+use Rattle.pc_bst.specs.PlainWriting.{TakesSlot}
 use Rattle.pc_bst.proofs.KeptCells.{kept_node, kept_same}
 
 -- the last of a stack is counted

@@ -1,18 +1,18 @@
 -- Cells whose great versions are set back: how that goes with writing a word and a node, and that what
 -- is written so fits.
-use Rattle.std.proofs.Common.{◌≡◌, ℕ, zero, suc, ◌+◌, ◌%◌, ◌<◌, ◌≤◌, ◌==◌, ◌⊎◌, ⊎_elim, if◌then◌else◌, Bool, true, false, cond, List, [], ◌∷◌, ◌++◌, map, length, Option, Some, None, IfSome, option_to_list, nat_lt, refl, sym, ap, ◌∙◌, subst, arith}
+use Rattle.std.proofs.Common.{◌≡◌, ℕ, zero, suc, ◌+◌, ◌%◌, ◌<◌, ◌==◌, ⊎_elim, Bool, true, false, cond, List, [], ◌∷◌, map, nat_lt, refl, sym, ap, ◌∙◌, subst, arith}
 use Rattle.std.proofs.lemmas.Bool.{cases_Bool, cases_lt, eqb-true, lt-ltb, le-ltb, cond-true, cond-false, cond_both}
 use Rattle.pc_model.specs.declared.cell.Field.{Field}
 use Rattle.pc_model.specs.declared.cell.Field.TheVariants.{Version, Key, Value, Left, Right, Parent, Height, Spare}
-use Rattle.pc_model.specs.Cells.{Cells, FitsWords, IsNode, IsSlot, field_number, written, with_node}
-use Rattle.pc_model.specs.Exchanges.{with_changes, with_fresh}
+use Rattle.pc_model.specs.Cells.{Cells, FitsWords, field_number, written, with_node}
+use Rattle.pc_model.specs.Exchanges.{with_changes}
 use Rattle.pc_bst.specs.declared.change.To.{To}
 use Rattle.pc_bst.specs.declared.change.To.TheVariants.{Number, Fresh as FreshNumber}
 use Rattle.pc_bst.specs.declared.change.Add.{Add}
 use Rattle.pc_bst.specs.declared.change.Fresh.{Fresh}
-use Rattle.pc_bst.specs.Runs.{number_at, change_at, fresh_fields, fresh_at, FitsWord, AreWordsOf, FreshFits, taken_by}
-use Rattle.pc_bst.specs.PlainCells.{cells_in, limit, AreBelowLimits, kept, kept_cells}
-use Rattle.pc_bst.specs.PlainRuns.{with_adds, TakesSlot}
+use Rattle.pc_bst.specs.Runs.{number_at, change_at, fresh_fields, FitsWord, AreWordsOf, FreshFits}
+use Rattle.pc_bst.specs.PlainCells.{limit, AreBelowLimits, kept, kept_cells}
+use Rattle.pc_bst.specs.PlainWriting.{with_adds}
 
 -- the field with a number
 abbrev field_at : ℕ → Field

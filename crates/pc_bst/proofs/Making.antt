@@ -1,8 +1,7 @@
 -- An exchange that is made in plain cells: the slot that it takes is one that it may take, its words
 -- can be written, and the cells that it leaves are sound again.
-use Rattle.std.proofs.Common.{◌≡◌, ℕ, zero, suc, ◌+◌, ◌*◌, ◌%◌, ◌<◌, ◌≤◌, ◌==◌, ◌&&◌, ◌⊎◌, ⊎_elim, if◌then◌else◌, Bool, true, false, cond, List, [], ◌∷◌, ◌++◌, map, length, Option, Some, None, IfSome, IsSome, option_to_list, nat_lt, nat_le, refl, sym, ap, ◌∙◌, subst, arith, length-append}
-use Rattle.std.proofs.lemmas.Bool.{cases_Bool, eqb-true, eq-eqb, leb-true, le-leb, and_parts, and_from}
-use Rattle.pc_model.specs.declared.cell.Field.{Field}
+use Rattle.std.proofs.Common.{◌≡◌, ℕ, ◌+◌, ◌*◌, ◌%◌, ◌<◌, ◌≤◌, ◌==◌, ◌&&◌, ⊎_elim, if◌then◌else◌, Bool, true, false, cond, List, [], ◌∷◌, ◌++◌, length, Option, Some, None, IfSome, IsSome, option_to_list, nat_le, refl, sym, ap, ◌∙◌, subst, arith, length-append}
+use Rattle.std.proofs.lemmas.Bool.{cases_Bool, eqb-true, leb-true, le-leb, and_parts, and_from}
 use Rattle.pc_model.specs.declared.cell.Field.TheVariants.{Version}
 use Rattle.pc_model.specs.Cells.{Cells, IsEven, IsOdd, IsNode, IsSlot}
 use Rattle.pc_model.specs.Counts.{count, one_if}
@@ -13,7 +12,8 @@ use Rattle.pc_bst.specs.declared.change.Fresh.{Fresh}
 use Rattle.pc_bst.specs.Planned.{Planned}
 use Rattle.pc_bst.specs.Runs.{Takes, AreWordsOf, FreshFits, fresh_at, fresh_fields, taken_by, slot_taken, is_slot, parity_after}
 use Rattle.pc_bst.specs.PlainCells.{PlainWords, cells_in, cells_of, AreBelowLimits, is_free, IsSoundPlain, kept, kept_cells}
-use Rattle.pc_bst.specs.PlainRuns.{with_adds, AddsReach, TakesSlot, IsFitting, CanMake, IsMade, changed_cells}
+use Rattle.pc_bst.specs.PlainRuns.{IsFitting, CanMake, IsMade, changed_cells}
+use Rattle.pc_bst.specs.PlainWriting.{with_adds, AddsReach, TakesSlot}
 use Rattle.pc_bst.proofs.KeptCells.{kept_same, kept_node, kept_adds, kept_parity, below_node, below_adds, fresh_below}
 use Rattle.pc_bst.proofs.FreeSlots.{last_counted}
 

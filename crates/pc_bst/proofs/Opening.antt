@@ -1,16 +1,16 @@
 -- The words that a tree opens with, and the stack of all slots.
-use Rattle.std.proofs.Common.{◌≡◌, ◌≢◌, ℕ, zero, suc, ◌+◌, ◌-◌, ◌*◌, ◌%◌, ◌<◌, ◌≤◌, ◌==◌, ◌&&◌, ◌⊎◌, ⊎_elim, if◌then◌else◌, Bool, true, false, cond, List, [], ◌∷◌, ◌++◌, length, get_or, nat_lt, nat_le, replicate, refl, sym, ap, ◌∙◌, subst, arith}
-use Rattle.std.proofs.lemmas.List.{get_or-replicate, get_or_past, length-replicate}
-use Rattle.std.proofs.lemmas.Bool.{cases_Bool, cases_eq, cases_lt, lt-ltb, le-ltb, le-leb, lt-leb, eq-eqb, ne_eqb, eqb-true, leb-true, and_parts, and_from, and_left}
+use Rattle.std.proofs.Common.{◌≡◌, ◌≢◌, ℕ, ◌+◌, ◌-◌, ◌*◌, ◌%◌, ◌<◌, ◌≤◌, ◌==◌, ◌&&◌, ⊎_elim, if◌then◌else◌, Bool, true, false, List, [], ◌∷◌, ◌++◌, length, nat_lt, nat_le, refl, sym, ap, ◌∙◌, arith}
+use Rattle.std.proofs.lemmas.List.{get_or_past}
+use Rattle.std.proofs.lemmas.Bool.{cases_Bool, cases_eq, cases_lt, eq-eqb, ne_eqb, leb-true, and_parts, and_from, and_left}
 use Rattle.std.proofs.lemmas.Bool.Decides.{nat_tests}
 use Rattle.pc_model.specs.declared.cell.Field.{Field}
 use Rattle.pc_model.specs.declared.cell.Field.TheVariants.{Version, Key, Value, Left, Right, Parent, Height, Spare}
-use Rattle.pc_model.specs.Cells.{Cells, IsEven, IsNode, IsSlot, field_number, written, opening_fields}
+use Rattle.pc_model.specs.Cells.{Cells, field_number, written, opening_fields}
 use Rattle.pc_model.specs.Counts.{count, one_if}
 use Rattle.pc_model.specs.Trees.{Empty, plain, IsSearchTree}
 use Rattle.pc_model.proofs.Counting.{count-append}
-use Rattle.pc_bst.specs.PlainCells.{PlainWords, cells_in, cells_of, limit, AreBelowLimits, is_free, IsSoundPlain, AreOpening, IsEmptyTree}
-use Rattle.pc_bst.specs.PlainRuns.{OpensCells, HasEachSlot}
+use Rattle.pc_bst.specs.PlainCells.{cells_in, limit, AreBelowLimits, is_free, IsSoundPlain}
+use Rattle.pc_bst.specs.PlainWriting.{OpensCells, HasEachSlot}
 
 -- whether a slot is among the greatest slots, so many of them
 abbrev pub is_among_last : ℕ → ℕ → ℕ → Bool

@@ -1,6 +1,6 @@
 -- That a run ends right: from what a plan's law says of where its trace leads, and from the exchange
 -- that was made.
-use Rattle.std.proofs.Common.{◌≡◌, ◌≢◌, ℕ, ◌+◌, ◌%◌, ◌≤◌, List, [], Option, Result, Ok, Err, IfOk, OnOk, refl, sym, ap, ◌∙◌, subst}
+use Rattle.std.proofs.Common.{◌≡◌, ◌≢◌, ℕ, ◌%◌, ◌≤◌, List, [], Option, Result, Ok, Err, IfOk, OnOk, refl, sym, ap, ◌∙◌, subst}
 use Rattle.pc_model.specs.declared.call.Call.{Call}
 use Rattle.pc_model.specs.declared.call.Reply.{Reply}
 use Rattle.pc_model.specs.declared.cell.Field.{Field}
@@ -13,7 +13,7 @@ use Rattle.pc_bst.specs.declared.plan.Ask.TheVariants.{Change, Answer}
 use Rattle.pc_bst.specs.declared.plan.Told.{Told}
 use Rattle.pc_bst.specs.Planned.{Planned}
 use Rattle.pc_bst.specs.Traces.{Event}
-use Rattle.pc_bst.specs.Runs.{exchange_of, Takes, IsRightChange, IsRightReply, next_pairs, IsRightAsk, past_of, reached, IsReady, Runs, KeepsParity}
+use Rattle.pc_bst.specs.Runs.{exchange_of, Takes, IsRightChange, next_pairs, IsRightAsk, past_of, Runs, KeepsParity}
 use Rattle.pc_bst.specs.PlainCells.{PlainWords, cells_of, kept}
 use Rattle.pc_bst.specs.PlainRuns.{IsFitting, CanMake, IsMade, ComesTo, RunsRight}
 use Rattle.pc_bst.proofs.KeptCells.{kept_parity}

@@ -1,12 +1,12 @@
 -- A trace one turn longer, and what a plan's law says of the ask that a trace leads to.
-use Rattle.std.proofs.Common.{◌≡◌, ℕ, zero, suc, ◌+◌, ◌*◌, ◌<◌, ◌≤◌, List, [], ◌∷◌, ◌++◌, length, Option, refl, sym, ap, ◌∙◌, subst, arith, length-append}
+use Rattle.std.proofs.Common.{◌≡◌, ℕ, ◌+◌, ◌*◌, ◌<◌, List, [], ◌∷◌, ◌++◌, length, Option, refl, sym, ap, ◌∙◌, subst, length-append}
 use Rattle.pc_model.specs.declared.call.Call.{Call}
 use Rattle.pc_model.specs.declared.cell.Field.{Field}
 use Rattle.pc_model.specs.declared.cell.Field.TheVariants.{Version as VersionField}
 use Rattle.pc_model.specs.Map.{Pairs}
-use Rattle.pc_model.specs.Cells.{Cells, IsEven, IsNode}
+use Rattle.pc_model.specs.Cells.{Cells, IsEven}
 use Rattle.pc_bst.specs.declared.plan.Ask.{Ask}
-use Rattle.pc_bst.specs.declared.plan.Ask.TheVariants.{Visit, Read, Change, Answer}
+use Rattle.pc_bst.specs.declared.plan.Ask.TheVariants.{Visit, Read}
 use Rattle.pc_bst.specs.declared.plan.Told.{Told}
 use Rattle.pc_bst.specs.declared.plan.Told.TheVariants.{Begin, Version, Number}
 use Rattle.pc_bst.specs.Traces.{after, Agrees, Tells}

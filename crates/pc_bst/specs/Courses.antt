@@ -1,20 +1,18 @@
 -- How a plan's law on sound cells is proved: the course that the plan takes on cells that stand still,
 -- step by step with a bound on its turns, decides every trace that agrees with the cells.
-use Rattle.std.proofs.Common.{◌≡◌, ℕ, zero, suc, ◌+◌, ◌%◌, ◌<◌, ◌≤◌, List, [], ◌∷◌, length, Option, Some, None, refl, sym, ap, ◌∙◌, subst, arith}
+use Rattle.std.proofs.Common.{◌≡◌, ℕ, zero, suc, ◌%◌, ◌≤◌, List, [], ◌∷◌, length, Option, None, subst, arith}
 use Rattle.std.specs.Prelude.{map, IfSome}
 use Rattle.pc_model.specs.declared.call.Call.{Call}
-use Rattle.pc_model.specs.declared.call.Reply.{Reply}
-use Rattle.pc_model.specs.declared.cell.Field.{Field}
 use Rattle.pc_model.specs.declared.cell.Field.TheVariants.{Version as VersionField}
 use Rattle.pc_model.specs.Map.{Pairs}
 use Rattle.pc_model.specs.Cells.{Cells, IsEven, IsSlot, IsNode}
-use Rattle.pc_model.specs.Exchanges.{Exchange, Stands, VisitsStand, ReadsStand, ChangesStand, FreshStands, applied}
+use Rattle.pc_model.specs.Exchanges.{VisitsStand, ReadsStand, ChangesStand, FreshStands, applied}
 use Rattle.pc_bst.specs.declared.plan.Ask.{Ask}
 use Rattle.pc_bst.specs.declared.plan.Ask.TheVariants.{Visit, Read, Change, Answer}
 use Rattle.pc_bst.specs.declared.plan.Told.{Told}
 use Rattle.pc_bst.specs.declared.plan.Told.TheVariants.{Begin, Version, Number}
 use Rattle.pc_bst.specs.Planned.{Planned}
-use Rattle.pc_bst.specs.Traces.{Event, visited, found, learned, Tells, after, learned_along, Agrees, visits_in, reads_in, version_seen}
+use Rattle.pc_bst.specs.Traces.{Event, visited, found, after, learned_along, Agrees, visits_in, reads_in, version_seen}
 use Rattle.pc_bst.specs.Runs.{change_at, fresh_at, exchange_of, Takes, parity_after, AreWordsOf, FreshFits, IsRightChange, IsRightReply, next_pairs, IsRightAsk}
 
 -- the cells have all that was learned

@@ -1,14 +1,10 @@
 -- The laws of a get.
-use Rattle.std.proofs.Common.{◌≡◌, ℕ, zero, suc, ◌+◌, ◌*◌, ◌<◌, ◌≤◌, ◌⊎◌, inl, inr, ⊎_elim, List, [], ◌∷◌, length, Option, Some, None, refl, sym, ap, ◌∙◌, subst, arith}
-use Rattle.pc_model.specs.declared.call.Call.{Call}
+use Rattle.std.proofs.Common.{◌≡◌, ℕ, ◌+◌, ◌*◌, ◌≤◌, inl, List, [], length, Some, None, refl, sym, ap, arith}
 use Rattle.pc_model.specs.declared.call.Call.TheVariants.{Get}
-use Rattle.pc_model.specs.declared.call.Reply.TheVariants.{Value, None as Nothing}
-use Rattle.pc_model.specs.declared.cell.Field.{Field}
-use Rattle.pc_model.specs.declared.cell.Field.TheVariants.{Version as VersionField, Key as KeyField, Value as ValueField, Left, Right}
+use Rattle.pc_model.specs.declared.cell.Field.TheVariants.{Value as ValueField}
 use Rattle.pc_model.specs.Map.{Pairs, value_at, value_or_nothing}
 use Rattle.pc_model.specs.Cells.{Cells, IsSlot}
-use Rattle.pc_model.specs.Trees.{Tree, Empty, Fork, plain, IsTreeNode, IsSearchTree}
-use Rattle.pc_model.proofs.Holes.{Hole}
+use Rattle.pc_model.specs.Trees.{plain, IsTreeNode, IsSearchTree}
 use Rattle.pc_model.proofs.HolePairs.{value_at-hole, value_at-empty_hole}
 use Rattle.pc_bst.specs.declared.plan.Ask.{Ask}
 use Rattle.pc_bst.specs.declared.plan.Told.{Told}
@@ -22,11 +18,11 @@ use Rattle.pc_bst.specs.Traces.{Event, learned, learned_along, after, reads_sinc
 use Rattle.pc_bst.specs.Runs.{Runs, IsReady}
 use Rattle.pc_bst.specs.Lawful.{IsWord, IsLawfulAsk, IsLawful}
 use Rattle.pc_bst.specs.Lawfulness.{kept_along, StepStands, Waits, walk_stands, waits_lawful, is_some-seen}
-use Rattle.pc_bst.specs.Walks.{walk_of, walk_step}
+use Rattle.pc_bst.specs.Walks.{walk_step}
 use Rattle.pc_bst.specs.Gets.{IsKey, get_call, get_of, get_walked, get_moves}
 use Rattle.pc_bst.specs.PlainTrees.{IsPlainTree}
 use Rattle.pc_bst.specs.Courses.{Course, course_goes, course_ends}
-use Rattle.pc_bst.specs.WalkCourses.{IsUnseen, walk_course}
+use Rattle.pc_bst.specs.WalkCourses.{walk_course}
 
 module _ (slots : ℕ) (c : Cells) (ps : Pairs) (k : ℕ) (ready : IsReady IsPlainTree slots c ps) where
   tree : IsSearchTree plain slots c ps

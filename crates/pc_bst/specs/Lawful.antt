@@ -1,9 +1,8 @@
 -- The law of a plan whatever it is told: it begins with a visit, visits the sentinel and nodes that it
 -- was told of, reads what it visited, at most eight times a visit, and changes what it was told.
-use Rattle.std.specs.Prelude.{◌≡◌, ◌≢◌, ℕ, ◌+◌, ◌^◌, ◌<◌, ◌≤◌, ◌⊎◌, List, [], ◌∷◌, Option, Some, None, IsSome}
+use Rattle.std.specs.Prelude.{◌≡◌, ◌≢◌, ℕ, ◌+◌, ◌^◌, ◌<◌, ◌⊎◌, List, [], ◌∷◌, Option, Some, None, IsSome}
 use Rattle.pc_model.specs.declared.cell.Field.{Field}
 use Rattle.pc_model.specs.declared.cell.Field.TheVariants.{Version as VersionField, Left, Right, Parent}
-use Rattle.pc_bst.specs.declared.change.To.{To}
 use Rattle.pc_bst.specs.declared.change.To.TheVariants.{Number, Fresh as FreshNumber}
 use Rattle.pc_bst.specs.declared.change.Add.{Add}
 use Rattle.pc_bst.specs.declared.change.Fresh.{Fresh}

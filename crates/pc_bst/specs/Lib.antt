@@ -8,6 +8,7 @@ pub mod PlainPairs
 pub mod PlainRuns
 pub mod PlainTreeLaws
 pub mod PlainTrees
+pub mod PlainWriting
 pub mod Planned
 pub mod PutEnds
 pub mod PutLaws

@@ -1,5 +1,5 @@
 -- The pairs of the tree that plain cells spell.
-use Rattle.std.specs.Prelude.{◌≡◌, ℕ}
+use Rattle.std.specs.Prelude.{◌≡◌}
 use Rattle.pc_model.specs.Map.{Pairs}
 use Rattle.pc_model.specs.Trees.{Kind, IsSearchTree}
 use Rattle.pc_bst.specs.PlainCells.{PlainWords, cells_of}

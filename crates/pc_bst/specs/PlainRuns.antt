@@ -1,56 +1,19 @@
 -- What a run of a plan on plain cells does to them, and what it answers.
-use Rattle.std.specs.Prelude.{◌≡◌, ℕ, ◌+◌, ◌*◌, ◌%◌, ◌<◌, ◌≤◌, ◌==◌, nat_le, ◌&&◌, if◌then◌else◌, List, [], ◌∷◌, ◌++◌, map, length, Option, Some, None, IsSome, IfSome, option_to_list}
+use Rattle.std.specs.Prelude.{◌≡◌, ℕ, ◌%◌, List, [], length, Option, IsSome, IfSome}
 use Rattle.pc_model.specs.declared.call.Call.{Call}
 use Rattle.pc_model.specs.declared.call.Reply.{Reply}
 use Rattle.pc_model.specs.declared.cell.Field.{Field}
 use Rattle.pc_model.specs.declared.cell.Field.TheVariants.{Version as VersionField}
 use Rattle.pc_model.specs.Map.{Pairs}
-use Rattle.pc_model.specs.Cells.{Cells, IsEven, IsSlot, IsNode, written, opening_fields}
-use Rattle.pc_model.specs.Counts.{count, one_if}
-use Rattle.pc_model.specs.Exchanges.{applied, with_fresh}
-use Rattle.pc_bst.specs.declared.change.Add.{Add}
-use Rattle.pc_bst.specs.declared.change.Fresh.{Fresh}
+use Rattle.pc_model.specs.Cells.{Cells, IsEven, IsSlot}
+use Rattle.pc_model.specs.Exchanges.{applied}
 use Rattle.pc_bst.specs.declared.plan.Ask.{Ask}
 use Rattle.pc_bst.specs.declared.plan.Ask.TheVariants.{Visit, Read, Change, Answer}
 use Rattle.pc_bst.specs.declared.plan.Told.{Told}
 use Rattle.pc_bst.specs.Planned.{Planned}
 use Rattle.pc_bst.specs.Traces.{Event}
-use Rattle.pc_bst.specs.Runs.{number_at, fresh_at, exchange_of, Takes, AreWordsOf, FreshFits, parity_after, taken_by, IsRightReply, next_pairs, reached, past_of, AgreesWith}
-use Rattle.pc_bst.specs.PlainCells.{PlainWords, cells_in, cells_of, AreBelowLimits, kept, kept_cells}
-
--- the cells with these words' new numbers, one after another
-abbrev pub with_adds : ℕ → List Add → Cells → Cells
-with_adds slot [] c = c
-with_adds slot (a ∷ adds) c = with_adds slot adds (written a.node a.field (kept a.field (number_at slot a.new)) c)
-
--- a node's words stand in a list of this length
-abbrev pub ReachWords : ℕ → ℕ → Type 0
-ReachWords n len = 8 * n + 8 ≤ len
-
-abbrev pub AddsReach : ℕ → List Add → Type 0
-AddsReach len [] = Unit {0}
-AddsReach len (a ∷ adds) = ReachWords a.node len × AddsReach len adds
-
--- the words fit, and each slot of the stack has its words
-pub record CanTakeSlot (words free : List ℕ) : Type 0 where
-  pub fit : AreBelowLimits (cells_in words)
-  pub within : (n : ℕ) → 0 < count n free → ReachWords n (length words)
-
--- the slot was the stack's last where there is a fresh node, and the node is written there
-pub record TakesSlot (fresh : Option Fresh) (old_words new_words old_free new_free : List ℕ) (slot : ℕ) : Type 0 where
-  pub taken : old_free ≡ new_free ++ option_to_list (taken_by fresh slot)
-  pub cells : cells_in new_words ≡ kept_cells (with_fresh (fresh_at slot (cells_in old_words slot VersionField) fresh) (cells_in old_words))
-  pub long : length new_words ≡ length old_words
-  pub small : slot < 4294967296
-  pub parent : IfSome fresh (λ f. f.parent < 4294967296)
-
--- the cells of every node from node 0 on are those that a tree opens with
-abbrev pub OpensCells : ℕ → Cells → Type 0
-OpensCells slots c = (n : ℕ) (f : Field) → n ≤ slots + 1 → c n f ≡ opening_fields n f
-
--- each slot stands in the list once, and nothing else
-abbrev pub HasEachSlot : ℕ → List ℕ → Type 0
-HasEachSlot slots xs = (n : ℕ) → count n xs ≡ one_if (nat_le 2 n && nat_le n (slots + 1))
+use Rattle.pc_bst.specs.Runs.{exchange_of, Takes, AreWordsOf, FreshFits, parity_after, IsRightReply, next_pairs, reached, past_of, AgreesWith}
+use Rattle.pc_bst.specs.PlainCells.{PlainWords, cells_of, kept}
 
 -- the cells after an exchange whose fresh node takes this slot
 abbrev pub changed_cells : Planned → ℕ → Cells → Cells

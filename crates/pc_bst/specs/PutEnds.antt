@@ -1,12 +1,12 @@
 -- The exchanges of a put on a search tree: each leaves the tree with the pairs of the map.
-use Rattle.std.proofs.Common.{◌≡◌, ◌≢◌, ℕ, zero, suc, ◌+◌, ◌*◌, ◌-◌, ◌%◌, ◌^◌, ◌<◌, ◌≤◌, ◌==◌, ◌⊎◌, inl, inr, ⊎_elim, if◌then◌else◌, Bool, true, false, List, [], ◌∷◌, ◌++◌, Option, Some, None, refl, sym, ap, ◌∙◌, subst, arith}
+use Rattle.std.proofs.Common.{◌≡◌, ◌≢◌, ℕ, ◌+◌, ◌-◌, ◌%◌, ◌^◌, ◌<◌, ◌≤◌, ◌⊎◌, inl, ⊎_elim, [], ◌∷◌, ◌++◌, refl, sym, ap, ◌∙◌, subst, arith}
 use Rattle.std.specs.Prelude.{min}
-use Rattle.std.proofs.lemmas.Bool.{cases_eq, eq-eqb, ne_eqb, cond-true, cond-false}
+use Rattle.std.proofs.lemmas.Bool.{cases_eq}
 use Rattle.pc_model.specs.declared.cell.Field.{Field}
-use Rattle.pc_model.specs.declared.cell.Field.TheVariants.{Version as VersionField, Key as KeyField, Value as ValueField, Left, Right, Parent, Height, Spare}
-use Rattle.pc_model.specs.Map.{Pairs, IsRising, AreSmall, put}
-use Rattle.pc_model.specs.Cells.{Cells, IsEven, IsOdd, IsSlot, IsNode, FitsWords, field_number, written, with_node}
-use Rattle.pc_model.specs.Trees.{Tree, Empty, Fork, plain, IsTreeNode, Spells, IsIn, pair_of, pairs_of, IsSearchTree}
+use Rattle.pc_model.specs.declared.cell.Field.TheVariants.{Version as VersionField, Key as KeyField, Value as ValueField, Left, Right, Parent, Height}
+use Rattle.pc_model.specs.Map.{Pairs, put}
+use Rattle.pc_model.specs.Cells.{Cells, IsEven, IsOdd, IsSlot, IsNode, field_number, written, with_node}
+use Rattle.pc_model.specs.Trees.{Tree, Empty, Fork, plain, IsTreeNode, Spells, IsIn, pairs_of, IsSearchTree}
 use Rattle.pc_model.proofs.SortedLists.{put_rises, put_small}
 use Rattle.pc_model.proofs.Writes.{written-here, written-other_node, written-other_field, with_node-here, with_node-other}
 use Rattle.pc_model.proofs.Framing.{Apart, tree_node_same, spells_same, pairs_same}

@@ -1,5 +1,5 @@
 -- The laws of a put.
-use Rattle.std.proofs.Common.{◌≡◌, ◌≢◌, ℕ, zero, suc, ◌+◌, ◌*◌, ◌%◌, ◌^◌, ◌<◌, ◌≤◌, ◌==◌, if◌then◌else◌, ◌⊎◌, inl, inr, ⊎_elim, List, [], ◌∷◌, length, Option, Some, None, refl, sym, ap, ◌∙◌, subst, arith}
+use Rattle.std.proofs.Common.{◌≡◌, ◌≢◌, ℕ, ◌+◌, ◌*◌, ◌%◌, ◌^◌, ◌<◌, ◌≤◌, ◌==◌, if◌then◌else◌, ◌⊎◌, inl, inr, ⊎_elim, List, [], ◌∷◌, length, Option, Some, None, refl, sym, ap, ◌∙◌, subst, arith}
 use Rattle.std.proofs.lemmas.Bool.{cases_eq, eq-eqb, ne_eqb, cond-true, cond-false}
 use Rattle.std.specs.Prelude.{◌-◌, min}
 use Rattle.pc_model.specs.declared.call.Call.TheVariants.{Put}
@@ -24,12 +24,12 @@ use Rattle.pc_bst.specs.Planned.{Planned}
 use Rattle.pc_bst.specs.Traces.{Event, found, learned, learned_along, after, version_seen, number_seen, reads_since_visit}
 use Rattle.pc_bst.specs.Lawful.{IsWord, IsToldWord, IsLawfulAsk, IsLawfulChange, IsLawful}
 use Rattle.pc_bst.specs.Lawfulness.{kept_along, IsSide, StepStands, Waits, walk_stands, waits_lawful, is_some-seen, number_seen-here}
-use Rattle.pc_bst.specs.Runs.{Runs, IsReady, FitsWord, parity_after, is_slot}
-use Rattle.pc_bst.specs.Walks.{walk_of, walk_step}
+use Rattle.pc_bst.specs.Runs.{Runs, IsReady, FitsWord}
+use Rattle.pc_bst.specs.Walks.{walk_step}
 use Rattle.pc_bst.specs.Puts.{IsPair, put_call, put_of, put_walked, put_moves, raised, value_changed, leaf_added}
 use Rattle.pc_bst.specs.PlainTrees.{IsPlainTree}
 use Rattle.pc_bst.specs.Courses.{Course, IsRightEnd, course_goes, course_ends}
-use Rattle.pc_bst.specs.WalkCourses.{IsUnseen, walk_course}
+use Rattle.pc_bst.specs.WalkCourses.{walk_course}
 use Rattle.pc_bst.specs.PutEnds.{with_value-parity, value_leaves, with_leaf, with_leaf-parity, with_leaf-even, leaf_leaves}
 
 module _ (slots : ℕ) (c : Cells) (ps : Pairs) (k value : ℕ) (ready : IsReady IsPlainTree slots c ps) (key : k ≤ 999999999999999999) (val : value ≤ 999999999999999999) where

@@ -1,5 +1,5 @@
 -- The plan of a put, as a machine.
-use Rattle.std.specs.Prelude.{ℕ, ◌+◌, ◌-◌, ◌^◌, ◌≤◌, min, List, [], ◌∷◌, Option, Some, None}
+use Rattle.std.specs.Prelude.{ℕ, ◌+◌, ◌-◌, ◌^◌, ◌≤◌, min, [], ◌∷◌, Option, Some, None}
 use Rattle.pc_model.specs.declared.cell.Field.{Field}
 use Rattle.pc_model.specs.declared.cell.Field.TheVariants.{Version as VersionField, Value as ValueField}
 use Rattle.pc_model.specs.declared.call.Call.{Call}
@@ -7,7 +7,6 @@ use Rattle.pc_model.specs.declared.call.Call.TheVariants.{Put}
 use Rattle.pc_model.specs.declared.call.Reply.TheVariants.{New, Was, None as Nothing}
 use Rattle.pc_bst.specs.declared.change.To.TheVariants.{Number as ToNumber, Fresh as ToFresh}
 use Rattle.pc_bst.specs.declared.change.Add.{Add}
-use Rattle.pc_bst.specs.declared.change.Fresh.{Fresh}
 use Rattle.pc_bst.specs.declared.plan.Ask.{Ask}
 use Rattle.pc_bst.specs.declared.plan.Ask.TheVariants.{Visit as AskVisit, Read as AskRead, Change, Answer}
 use Rattle.pc_bst.specs.declared.plan.Told.{Told}

@@ -1,13 +1,13 @@
 -- What a plan was told, where that leads, and what it has learned so far.
 use Rattle.std.specs.Prelude.{◌≡◌, ℕ, suc, ◌==◌, if◌then◌else◌, List, [], ◌∷◌, Option, Some, None}
 use Rattle.pc_model.specs.declared.cell.Field.{Field}
-use Rattle.pc_model.specs.declared.cell.Field.TheVariants.{Version as VersionField, Key, Value, Left, Right, Parent, Height, Spare}
+use Rattle.pc_model.specs.declared.cell.Field.TheVariants.{Version as VersionField}
 use Rattle.pc_model.specs.Cells.{Cells, IsEven, field_number}
 use Rattle.pc_model.specs.Exchanges.{Visited, Seen}
 use Rattle.pc_bst.specs.declared.plan.Ask.{Ask}
-use Rattle.pc_bst.specs.declared.plan.Ask.TheVariants.{Visit, Read, Change, Answer}
+use Rattle.pc_bst.specs.declared.plan.Ask.TheVariants.{Visit, Read}
 use Rattle.pc_bst.specs.declared.plan.Told.{Told}
-use Rattle.pc_bst.specs.declared.plan.Told.TheVariants.{Begin, Version, Number}
+use Rattle.pc_bst.specs.declared.plan.Told.TheVariants.{Version, Number}
 
 -- what was learned: a node was visited at a version, or a word had a number
 pub data Event : Type 0 where

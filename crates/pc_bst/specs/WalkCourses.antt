@@ -1,14 +1,14 @@
 -- The walk to a key on a search tree that stands still, for every plan that begins with it: it comes to
 -- the node with the key, or to the empty link where the key belongs.
-use Rattle.std.proofs.Common.{◌≡◌, ◌≢◌, ℕ, zero, suc, ◌+◌, ◌*◌, ◌^◌, ◌%◌, ◌<◌, ◌≤◌, ◌==◌, ◌⊎◌, inl, inr, ⊎_elim, if◌then◌else◌, true, false, List, [], ◌∷◌, Option, Some, None, refl, sym, ap, ◌∙◌, subst, arith}
+use Rattle.std.proofs.Common.{◌≡◌, ◌≢◌, ℕ, zero, suc, ◌+◌, ◌*◌, ◌<◌, ◌≤◌, ◌==◌, ◌⊎◌, inl, inr, ⊎_elim, if◌then◌else◌, false, List, [], ◌∷◌, Option, Some, None, refl, sym, ap, ◌∙◌, subst, arith}
 use Rattle.std.specs.Prelude.{nat_lt}
-use Rattle.std.proofs.lemmas.Bool.{cases_eq, cases_order, eq-eqb, ne_eqb, lt-ltb, le-ltb, cond-true, cond-false}
+use Rattle.std.proofs.lemmas.Bool.{cases_order, eq-eqb, ne_eqb, lt-ltb, le-ltb, cond-true, cond-false}
 use Rattle.pc_model.specs.declared.call.Call.{Call}
 use Rattle.pc_model.specs.declared.cell.Field.{Field}
 use Rattle.pc_model.specs.declared.cell.Field.TheVariants.{Version as VersionField, Key as KeyField, Left, Right}
-use Rattle.pc_model.specs.Map.{Pairs, IsRising}
-use Rattle.pc_model.specs.Cells.{Cells, IsEven, IsSlot, IsNode}
-use Rattle.pc_model.specs.Trees.{Tree, Empty, Fork, Kind, IsTreeNode, Spells, IsIn, size_of, IsSearchTree}
+use Rattle.pc_model.specs.Map.{Pairs}
+use Rattle.pc_model.specs.Cells.{Cells, IsSlot}
+use Rattle.pc_model.specs.Trees.{Tree, Empty, Fork, Kind, IsTreeNode, IsIn, size_of, IsSearchTree}
 use Rattle.pc_model.proofs.Framing.{Apart, slot_in}
 use Rattle.pc_model.proofs.Soundness.{search_tree_size}
 use Rattle.pc_model.proofs.Holes.{Hole, root_hole, hole_apart, left_hole, right_hole}
@@ -17,12 +17,12 @@ use Rattle.pc_bst.specs.declared.plan.Ask.TheVariants.{Visit as AskVisit, Read a
 use Rattle.pc_bst.specs.declared.plan.Told.{Told}
 use Rattle.pc_bst.specs.declared.plan.Told.TheVariants.{Begin, Version, Number}
 use Rattle.pc_bst.specs.declared.walk.Awaited.{Awaited}
-use Rattle.pc_bst.specs.declared.walk.Awaited.TheVariants.{Begin as ToBegin, Version as AVersion, Key as AKey, Link as ALink}
+use Rattle.pc_bst.specs.declared.walk.Awaited.TheVariants.{Version as AVersion, Key as AKey, Link as ALink}
 use Rattle.pc_bst.specs.declared.walk.Walk.{Walk}
 use Rattle.pc_bst.specs.declared.walk.Step.{Step}
-use Rattle.pc_bst.specs.declared.walk.Step.TheVariants.{Visit, Read, Found, Missing, Astray}
+use Rattle.pc_bst.specs.declared.walk.Step.TheVariants.{Visit, Read, Found, Missing}
 use Rattle.pc_bst.specs.Traces.{Event, visited, found, version_seen}
-use Rattle.pc_bst.specs.Walks.{node_at, walk_of, visiting, reading_link, arriving, comparing, following, step_at, walk_step}
+use Rattle.pc_bst.specs.Walks.{node_at, walk_of, reading_link, arriving, comparing, following, walk_step}
 use Rattle.pc_bst.specs.Courses.{Course, more_turns}
 
 -- a walk that has come to a node

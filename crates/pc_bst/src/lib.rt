@@ -11,6 +11,8 @@ mod plain;
 #[cfg(test)]
 mod plain_tests;
 mod plan;
+#[cfg(test)]
+mod plan_tests;
 mod put;
 mod run;
 mod tree_pairs;

@@ -1,6 +1,6 @@
 //! Plain cells: the nodes of one tree that one thread has for itself, with a stack of the slots that
 //! are out of use.
-ghost use Rattle.std.specs.Prelude.{◌≡◌, ℕ, ◌+◌, ◌*◌, ◌<◌, ◌≤◌, [], IfOk, IfErr, OnErr, OnOk, IsSome};
+ghost use Rattle.std.specs.Prelude.{◌≡◌, ◌+◌, ◌≤◌, [], IfOk, IfErr, OnErr, OnOk, IsSome};
 
 use crate::change::Change;
 use crate::words::{all_slots, give_slot, opening_words, take_slot, word, write_adds};

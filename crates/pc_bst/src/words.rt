@@ -1,10 +1,10 @@
 //! The words of nodes in one list, eight a node: how one word, a fresh node and the words of an
 //! exchange are written.
-ghost use Rattle.std.specs.Prelude.{◌≡◌, ℕ, ◌+◌, ◌*◌, ◌%◌, ◌^◌, ◌<◌, ◌≤◌, List, [], ◌∷◌, ◌++◌, length, vec_len, vec_capacity, Option, IfOk, IfSome, IfNone, IsSome, option_to_list};
+ghost use Rattle.std.specs.Prelude.{◌≡◌, ◌+◌, ◌*◌, ◌^◌, ◌<◌, ◌≤◌, [], ◌++◌, length, vec_len, vec_capacity, IfOk, IfSome, IfNone, IsSome, option_to_list};
 ghost use Rattle.pc_model.specs.Cells.{field_number, written, with_node};
 ghost use Rattle.pc_bst.specs.Runs.{number_at, fresh_fields};
 ghost use Rattle.pc_bst.specs.PlainCells.{cells_in, kept};
-ghost use Rattle.pc_bst.specs.PlainRuns.{with_adds, CanTakeSlot, TakesSlot, OpensCells, HasEachSlot, ReachWords, AddsReach};
+ghost use Rattle.pc_bst.specs.PlainWriting.{with_adds, CanTakeSlot, TakesSlot, OpensCells, HasEachSlot, ReachWords, AddsReach};
 
 use crate::change::{Add, Fresh, To};
 use pc_model::{Field, Memory};

@@ -1,10 +1,9 @@
 -- Counting: a list in which each slot stands at most once, and nothing else, is no longer than there are
 -- slots; one in which each slot stands is no shorter. So for the nodes of a tree.
-use Rattle.std.proofs.Common.{◌≡◌, ◌≢◌, ℕ, zero, suc, ◌+◌, ◌<◌, ◌≤◌, ◌==◌, ◌⊎◌, inl, inr, ⊎_elim, if◌then◌else◌, Bool, true, false, List, [], ◌∷◌, ◌++◌, length, refl, sym, ap, ◌∙◌, subst, arith, length-append}
+use Rattle.std.proofs.Common.{◌≡◌, ◌≢◌, ℕ, zero, suc, ◌+◌, ◌<◌, ◌≤◌, ◌==◌, inl, inr, ⊎_elim, if◌then◌else◌, true, false, List, [], ◌∷◌, ◌++◌, length, refl, sym, ap, ◌∙◌, subst, arith, length-append}
 use Rattle.std.proofs.lemmas.Bool.{cases_eq, eq-eqb, ne_eqb, cond-true, cond-false}
-use Rattle.std.proofs.lemmas.Bool.Decides.{nat_tests}
-use Rattle.pc_model.specs.Map.{Pairs, IsRising}
-use Rattle.pc_model.specs.Cells.{Cells, IsEven, IsSlot}
+use Rattle.pc_model.specs.Map.{IsRising}
+use Rattle.pc_model.specs.Cells.{Cells, IsSlot}
 use Rattle.pc_model.specs.Counts.{count, one_if}
 use Rattle.pc_model.specs.Trees.{Tree, Empty, Fork, Kind, Spells, IsIn, size_of, nodes_of, pair_of, pairs_of}
 use Rattle.pc_model.proofs.Framing.{is_in_or_not, slot_in, Apart, apart_from_rising}
@@ -28,9 +27,9 @@ length_without : (n : ℕ) (xs : List ℕ) → length xs ≡ count n xs + length
 length_without n [] = omega arith
 length_without n (x ∷ xs) = let ih : length xs ≡ count n xs + length (others n xs) = length_without n xs in ⊎_elim
     (λ e. let t : (x == n) ≡ true = eq-eqb x n e in let a : others n (x ∷ xs) ≡ others n xs = cond-true (x == n) (others n xs) (x ∷ others n xs) t in
-      let b : one_if (x == n) ≡ 1 = ap one_if t in rw a (omega (arith, b, ih)))
+    let b : one_if (x == n) ≡ 1 = ap one_if t in rw a (omega (arith, b, ih)))
     (λ ne. let t : (x == n) ≡ false = ne_eqb x n ne in let a : others n (x ∷ xs) ≡ x ∷ others n xs = cond-false (x == n) (others n xs) (x ∷ others n xs) t in
-      let b : one_if (x == n) ≡ 0 = ap one_if t in rw a (omega (arith, b, ih)))
+    let b : one_if (x == n) ≡ 0 = ap one_if t in rw a (omega (arith, b, ih)))
     (cases_eq x n)
 
 count-others_same : (n : ℕ) (xs : List ℕ) → count n (others n xs) ≡ 0
@@ -60,12 +59,12 @@ length-le-slots (suc slots) xs once slot =
     let top : ℕ = slots + 2 in
     let rest : List ℕ = others top xs in
     let less : (n : ℕ) → count n rest ≤ count n xs = λ n. ⊎_elim
-        (λ e. let z : count n rest ≡ 0 = rw e (count-others_same top xs) in omega arith)
-        (λ ne. let s : count n rest ≡ count n xs = count-others top n xs ne in omega arith) (cases_eq n top) in
+    (λ e. let z : count n rest ≡ 0 = rw e (count-others_same top xs) in omega arith)
+    (λ ne. let s : count n rest ≡ count n xs = count-others top n xs ne in omega arith) (cases_eq n top) in
     let once' : (n : ℕ) → count n rest ≤ 1 = λ n. let a : count n rest ≤ count n xs = less n in let b : count n xs ≤ 1 = once n in omega arith in
     let slot' : (n : ℕ) → 0 < count n rest → IsSlot slots n = λ n h. ⊎_elim
-        (λ e. let z : count n rest ≡ 0 = rw e (count-others_same top xs) in absurd (omega arith))
-        (λ ne. let a : count n rest ≤ count n xs = less n in let s : IsSlot (suc slots) n = slot n (omega arith) in let ne' : n ≢ slots + 2 = ne in (omega arith, omega arith)) (cases_eq n top) in
+    (λ e. let z : count n rest ≡ 0 = rw e (count-others_same top xs) in absurd (omega arith))
+    (λ ne. let a : count n rest ≤ count n xs = less n in let s : IsSlot (suc slots) n = slot n (omega arith) in let ne' : n ≢ slots + 2 = ne in (omega arith, omega arith)) (cases_eq n top) in
     let ih : length rest ≤ slots = length-le-slots slots rest once' slot' in
     let split : length xs ≡ count top xs + length rest = length_without top xs in
     let one : count top xs ≤ 1 = once top in
@@ -78,8 +77,8 @@ slots-le-length (suc slots) xs each =
     let top : ℕ = slots + 2 in
     let rest : List ℕ = others top xs in
     let each' : (n : ℕ) → IsSlot slots n → 1 ≤ count n rest = λ n s.
-        let ne : n ≢ top = λ e. let e' : n ≡ slots + 2 = e in absurd (omega arith) in
-        let same : count n rest ≡ count n xs = count-others top n xs ne in let one : 1 ≤ count n xs = each n (omega arith, omega arith) in omega arith in
+    let ne : n ≢ top = λ e. let e' : n ≡ slots + 2 = e in absurd (omega arith) in
+    let same : count n rest ≡ count n xs = count-others top n xs ne in let one : 1 ≤ count n xs = each n (omega arith, omega arith) in omega arith in
     let ih : slots ≤ length rest = slots-le-length slots rest each' in
     let split : length xs ≡ count top xs + length rest = length_without top xs in
     let one : 1 ≤ count top xs = each top (omega arith, omega arith) in
@@ -99,8 +98,8 @@ count_some n Empty i = absurd i
 count_some n (Fork m l r) i =
     let whole : count n (nodes_of l ++ (m ∷ nodes_of r)) ≡ count n (nodes_of l) + count n (m ∷ nodes_of r) = count-append n (nodes_of l) (m ∷ nodes_of r) in
     let sum : 1 ≤ count n (nodes_of l) + count n (m ∷ nodes_of r) = ⊎_elim
-      (λ e. let here : count n (m ∷ nodes_of r) ≡ suc (count n (nodes_of r)) = subst (λ (x : ℕ). count n (x ∷ nodes_of r) ≡ suc (count n (nodes_of r))) e (count-here n (nodes_of r)) in omega (arith, here))
-      (λ j. ⊎_elim (λ a. let ih : 1 ≤ count n (nodes_of l) = count_some n l a in omega (arith, ih)) (λ a. let ih : 1 ≤ count n (nodes_of r) = count_some n r a in omega (arith, ih)) j) i in
+    (λ e. let here : count n (m ∷ nodes_of r) ≡ suc (count n (nodes_of r)) = subst (λ (x : ℕ). count n (x ∷ nodes_of r) ≡ suc (count n (nodes_of r))) e (count-here n (nodes_of r)) in omega (arith, here))
+    (λ j. ⊎_elim (λ a. let ih : 1 ≤ count n (nodes_of l) = count_some n l a in omega (arith, ih)) (λ a. let ih : 1 ≤ count n (nodes_of r) = count_some n r a in omega (arith, ih)) j) i in
     omega (arith, whole, sum)
 
 count_once : (c : Cells) (n : ℕ) (t : Tree) → IsRising (pairs_of c t) → count n (nodes_of t) ≤ 1
@@ -111,13 +110,13 @@ count_once c n (Fork m l r) rising =
     let ihl : count n (nodes_of l) ≤ 1 = count_once c n l a.left in
     let ihr : count n (nodes_of r) ≤ 1 = count_once c n r a.right in
     let sum : count n (nodes_of l) + count n (m ∷ nodes_of r) ≤ 1 = ⊎_elim
-      (λ e. let here : count n (m ∷ nodes_of r) ≡ suc (count n (nodes_of r)) = subst (λ (x : ℕ). count n (x ∷ nodes_of r) ≡ suc (count n (nodes_of r))) e (count-here n (nodes_of r)) in
-        let zl : count n (nodes_of l) ≡ 0 = count_none n l (λ i. a.not_left (subst (λ (x : ℕ). IsIn x l) e i)) in
-        let zr : count n (nodes_of r) ≡ 0 = count_none n r (λ i. a.not_right (subst (λ (x : ℕ). IsIn x r) e i)) in omega (arith, here))
-      (λ ne. let here : count n (m ∷ nodes_of r) ≡ count n (nodes_of r) = count-else n m (nodes_of r) (λ e. ne (sym e)) in ⊎_elim
-        (λ i. let zr : count n (nodes_of r) ≡ 0 = count_none n r (λ j. a.not_both n i j) in omega (arith, here))
-        (λ no. let zl : count n (nodes_of l) ≡ 0 = count_none n l no in omega (arith, here)) (is_in_or_not n l))
-      (cases_eq n m) in
+    (λ e. let here : count n (m ∷ nodes_of r) ≡ suc (count n (nodes_of r)) = subst (λ (x : ℕ). count n (x ∷ nodes_of r) ≡ suc (count n (nodes_of r))) e (count-here n (nodes_of r)) in
+    let zl : count n (nodes_of l) ≡ 0 = count_none n l (λ i. a.not_left (subst (λ (x : ℕ). IsIn x l) e i)) in
+    let zr : count n (nodes_of r) ≡ 0 = count_none n r (λ i. a.not_right (subst (λ (x : ℕ). IsIn x r) e i)) in omega (arith, here))
+    (λ ne. let here : count n (m ∷ nodes_of r) ≡ count n (nodes_of r) = count-else n m (nodes_of r) (λ e. ne (sym e)) in ⊎_elim
+    (λ i. let zr : count n (nodes_of r) ≡ 0 = count_none n r (λ j. a.not_both n i j) in omega (arith, here))
+    (λ no. let zl : count n (nodes_of l) ≡ 0 = count_none n l no in omega (arith, here)) (is_in_or_not n l))
+    (cases_eq n m) in
     omega (arith, whole, sum)
 
 in_counted : (n : ℕ) (t : Tree) → 0 < count n (nodes_of t) → IsIn n t

@@ -1,10 +1,10 @@
 -- Trees in cells: what stays where the fields of a tree's nodes stay, and that rising keys keep the
 -- nodes of a tree apart.
-use Rattle.std.proofs.Common.{◌≡◌, ℕ, ◌+◌, ◌<◌, ◌≤◌, ◌⊎◌, inl, inr, ⊎_elim, List, [], ◌∷◌, ◌++◌, refl, sym, ap, ◌∙◌, subst, arith}
+use Rattle.std.proofs.Common.{◌≡◌, ℕ, ◌<◌, ◌⊎◌, inl, inr, ⊎_elim, [], ◌∷◌, ◌++◌, refl, ◌∙◌, arith}
 use Rattle.std.proofs.lemmas.Bool.{cases_eq}
 use Rattle.pc_model.specs.declared.cell.Field.{Field}
 use Rattle.pc_model.specs.declared.cell.Field.TheVariants.{Version, Key, Value, Left, Right, Parent, Height}
-use Rattle.pc_model.specs.Map.{Pairs, IsRising, AreBelow, AreAbove}
+use Rattle.pc_model.specs.Map.{IsRising, AreBelow, AreAbove}
 use Rattle.pc_model.specs.Cells.{Cells, IsEven, IsSlot}
 use Rattle.pc_model.specs.Trees.{Tree, Empty, Fork, Kind, plain, balanced, IsOfKind, IsTreeNode, Spells, IsIn, pair_of, pairs_of}
 use Rattle.pc_model.proofs.SortedLists.{AreBelow-split, AreAbove-split, rising_around, rising_front, rising_back}
@@ -14,7 +14,7 @@ pub is_in_or_not : (n : ℕ) (t : Tree) → IsIn n t ⊎ (IsIn n t → ⊥)
 is_in_or_not n Empty = inr (λ h. h)
 is_in_or_not n (Fork m l r) = ⊎_elim (λ e. inl (inl e))
     (λ ne. ⊎_elim (λ h. inl (inr (inl h)))
-      (λ nl. ⊎_elim (λ h. inl (inr (inr h))) (λ nr. inr (λ h. ⊎_elim ne (λ k. ⊎_elim nl nr k) h)) (is_in_or_not n r)) (is_in_or_not n l))
+    (λ nl. ⊎_elim (λ h. inl (inr (inr h))) (λ nr. inr (λ h. ⊎_elim ne (λ k. ⊎_elim nl nr k) h)) (is_in_or_not n r)) (is_in_or_not n l))
     (cases_eq n m)
 
 pub of_kind_same : (kind : Kind) (c c' : Cells) (above n : ℕ) → c' n Parent ≡ c n Parent → c' n Height ≡ c n Height → IsOfKind kind c above n → IsOfKind kind c' above n
@@ -90,5 +90,5 @@ apart_from_rising c n l r rising =
       right = rising_back (pair_of c n ∷ []) (pairs_of c r) tail;
       not_left = λ h. let lt : c n Key < c n Key = below_in (c n Key) c l n sides.0 h in absurd (omega arith);
       not_right = λ h. let lt : c n Key < c n Key = above_in (c n Key) c r n sides.1 h in absurd (omega arith);
-      not_both = λ m a b. let lt : c m Key < c n Key = below_in (c n Key) c l m sides.0 a in let gt : c n Key < c m Key = above_in (c n Key) c r m sides.1 b in absurd (omega arith)
+      not_both = λ m a b. let lt : c m Key < c n Key = below_in (c n Key) c l m sides.0 a in let gt : c n Key < c m Key = above_in (c n Key) c r m sides.1 b in absurd (omega arith);
     }

@@ -1,5 +1,5 @@
 -- What the map answers at a hole, and what its pairs are after a put there.
-use Rattle.std.proofs.Common.{◌≡◌, ℕ, List, [], ◌∷◌, ◌++◌, Option, Some, None, refl, sym, ap, ◌∙◌, subst}
+use Rattle.std.proofs.Common.{◌≡◌, ℕ, [], ◌∷◌, ◌++◌, Some, None, ap, ◌∙◌, subst}
 use Rattle.pc_model.specs.declared.cell.Field.{Field}
 use Rattle.pc_model.specs.declared.cell.Field.TheVariants.{Key, Value}
 use Rattle.pc_model.specs.Map.{Pairs, IsRising, AreBelow, AreAbove, value_at, put}
@@ -32,7 +32,7 @@ module _ (kind : Kind) (slots : ℕ) (c : Cells) (ps : Pairs) (whole : Tree) (k 
       let beyond : AreAbove k (pairs_of c r) = subst (λ (x : ℕ). AreAbove x (pairs_of c r)) e a.above in
       let here : put k v (pair_of c n ∷ []) ≡ (k, v) ∷ [] = ap (λ (x : ℕ). put k v ((x, c n Value) ∷ [])) e ∙ put-found k v (c n Value) [] in
       let inner : put k v (pairs_of c (Fork n l r)) ≡ pairs_of c l ++ ((k, v) ∷ pairs_of c r) =
-          put-between k v (pairs_of c l) (pair_of c n ∷ []) (pairs_of c r) below beyond ∙ ap (λ (x : Pairs). pairs_of c l ++ (x ++ pairs_of c r)) here in
+      put-between k v (pairs_of c l) (pair_of c n ∷ []) (pairs_of c r) below beyond ∙ ap (λ (x : Pairs). pairs_of c l ++ (x ++ pairs_of c r)) here in
       ap (put k v) h.pairs ∙ put-between k v h.before (pairs_of c (Fork n l r)) h.after h.below h.beyond ∙ ap (λ (x : Pairs). h.before ++ (x ++ h.after)) inner
 
   pub put-empty_hole : (v : ℕ) → (h : Hole kind slots c ps whole k above side Empty) → put k v ps ≡ h.before ++ (((k, v) ∷ []) ++ h.after)

@@ -1,13 +1,13 @@
 -- A walk from the root to a key, seen as a hole: the subtree at the link that the walk has come to, the
 -- pairs before and after it, and how the whole tree is spelled again where only that subtree changes.
-use Rattle.std.proofs.Common.{◌≡◌, ◌≢◌, ℕ, ◌+◌, ◌%◌, ◌<◌, ◌≤◌, ◌⊎◌, inl, inr, ⊎_elim, List, [], ◌∷◌, ◌++◌, refl, sym, ap, ◌∙◌, subst, append_assoc, arith}
+use Rattle.std.proofs.Common.{◌≡◌, ◌≢◌, ℕ, ◌%◌, ◌<◌, ◌⊎◌, inl, inr, ⊎_elim, [], ◌∷◌, ◌++◌, sym, ap, ◌∙◌, subst, append_assoc, arith}
 use Rattle.std.proofs.lemmas.List.{append-nil}
 use Rattle.std.proofs.lemmas.Bool.{cases_eq}
 use Rattle.pc_model.specs.declared.cell.Field.{Field}
 use Rattle.pc_model.specs.declared.cell.Field.TheVariants.{Version, Key, Value, Left, Right, Parent, Height, Spare}
 use Rattle.pc_model.specs.Map.{Pairs, IsRising, AreSmall, AreBelow, AreAbove}
 use Rattle.pc_model.specs.Cells.{Cells, IsEven, IsSlot, IsNode}
-use Rattle.pc_model.specs.Trees.{Tree, Empty, Fork, Kind, IsTreeNode, Spells, IsIn, pair_of, pairs_of, IsSearchTree}
+use Rattle.pc_model.specs.Trees.{Tree, Fork, Kind, IsTreeNode, Spells, IsIn, pair_of, pairs_of, IsSearchTree}
 use Rattle.pc_model.proofs.SortedLists.{AreBelow-join, AreAbove-join, below_weaker, above_weaker, rising_front, rising_back}
 use Rattle.pc_model.proofs.Framing.{is_in_or_not, tree_node_same, spells_same, pairs_same, slot_in, unmarked_in, Apart, apart_from_rising}
 
@@ -78,8 +78,8 @@ module _ (kind : Kind) (slots : ℕ) (c : Cells) (ps : Pairs) where
       outside = λ n h no. absurd (no h);
       unmarked = framed.unmarked;
       no_right = framed.other ∙ s.no_right;
-      no_parent = framed.parent ∙ s.no_parent
-    }
+      no_parent = framed.parent ∙ s.no_parent;
+    };
   }
 
   rising_sub : (before sub after : Pairs) → ps ≡ before ++ (sub ++ after) → IsRising ps → IsRising sub
@@ -110,38 +110,38 @@ module _ (kind : Kind) (slots : ℕ) (c : Cells) (ps : Pairs) where
         unmarked = node.unmarked;
         apart = a.not_left;
         fill = λ c' t' framed spelled.
-          let far : (m : ℕ) → IsNode slots m → IsEven (c m Version) → (IsIn m (Fork n l r) → ⊥) → (f : Field) → c' m f ≡ c m f =
-              λ m is even no f. framed.elsewhere m is even (λ i. no (inr (inl i))) (λ e. no (inl e)) f in
-          let upper : (f : Field) → c' above f ≡ c above f = λ f. far above h.node h.unmarked h.apart f in
-          let right : (m : ℕ) → IsIn m r → (f : Field) → c' m f ≡ c m f =
-              λ m i f. let s : IsSlot slots m = in_r m i in framed.elsewhere m (omega arith, omega arith) (even_r m i) (λ j. a.not_both m j i) (λ e. a.not_right (subst (λ (x : ℕ). IsIn x r) e i)) f in
-          let up : Framed slots c c' above side (Fork n l r) = record {
-            elsewhere = λ m is even no _ f. far m is even no f;
-            key = upper Key;
-            value = upper Value;
-            parent = upper Parent;
-            height = upper Height;
-            other = upper (other_link side);
-            unmarked = rw (upper Version) h.unmarked
-          } in
-          let right_link : Spells kind slots c' r n (c' n Right) = rw framed.other (spells_same kind slots c c' r n (c n Right) right h.spelled.3) in
-          let there : Spells kind slots c' (Fork n t' r) above (c' above side) =
-              (upper side ∙ h.spelled.0, tree_node_same kind slots c c' above n framed.unmarked framed.parent framed.height node, spelled, right_link) in
-          let f : Filled kind slots c' whole (Fork n l r) (Fork n t' r) h.before h.after = h.fill c' (Fork n t' r) up there in
-          let same_right : pairs_of c' r ≡ pairs_of c r = pairs_same c c' r right in
-          let same_here : pair_of c' n ≡ pair_of c n = λ i. (framed.key i, framed.value i) in
-          let regrouped : pairs_of c' (Fork n t' r) ++ h.after ≡ pairs_of c' t' ++ (pair_of c n ∷ pairs_of c r ++ h.after) =
-              append_assoc (pairs_of c' t') (pair_of c' n ∷ pairs_of c' r) h.after ∙ (λ i. pairs_of c' t' ++ (same_here i ∷ same_right i ++ h.after)) in
-          record {
-            tree = f.tree;
-            spelled = f.spelled;
-            pairs = f.pairs ∙ ap (λ (x : Pairs). h.before ++ x) regrouped;
-            inside = λ m i. f.inside m (inr (inl i));
-            outside = λ m i no. ⊎_elim (λ j. ⊎_elim (λ e. f.inside m (inl e)) (λ j'. ⊎_elim (λ x. absurd (no x)) (λ x. f.inside m (inr (inr x))) j') j) (λ j. f.outside m i j) (is_in_or_not m (Fork n l r));
-            unmarked = f.unmarked;
-            no_right = f.no_right;
-            no_parent = f.no_parent
-          }
+            let far : (m : ℕ) → IsNode slots m → IsEven (c m Version) → (IsIn m (Fork n l r) → ⊥) → (f : Field) → c' m f ≡ c m f =
+            λ m is even no f. framed.elsewhere m is even (λ i. no (inr (inl i))) (λ e. no (inl e)) f in
+            let upper : (f : Field) → c' above f ≡ c above f = λ f. far above h.node h.unmarked h.apart f in
+            let right : (m : ℕ) → IsIn m r → (f : Field) → c' m f ≡ c m f =
+            λ m i f. let s : IsSlot slots m = in_r m i in framed.elsewhere m (omega arith, omega arith) (even_r m i) (λ j. a.not_both m j i) (λ e. a.not_right (subst (λ (x : ℕ). IsIn x r) e i)) f in
+            let up : Framed slots c c' above side (Fork n l r) = record {
+              elsewhere = λ m is even no _ f. far m is even no f;
+              key = upper Key;
+              value = upper Value;
+              parent = upper Parent;
+              height = upper Height;
+              other = upper (other_link side);
+              unmarked = rw (upper Version) h.unmarked;
+            } in
+            let right_link : Spells kind slots c' r n (c' n Right) = rw framed.other (spells_same kind slots c c' r n (c n Right) right h.spelled.3) in
+            let there : Spells kind slots c' (Fork n t' r) above (c' above side) =
+            (upper side ∙ h.spelled.0, tree_node_same kind slots c c' above n framed.unmarked framed.parent framed.height node, spelled, right_link) in
+            let f : Filled kind slots c' whole (Fork n l r) (Fork n t' r) h.before h.after = h.fill c' (Fork n t' r) up there in
+            let same_right : pairs_of c' r ≡ pairs_of c r = pairs_same c c' r right in
+            let same_here : pair_of c' n ≡ pair_of c n = λ i. (framed.key i, framed.value i) in
+            let regrouped : pairs_of c' (Fork n t' r) ++ h.after ≡ pairs_of c' t' ++ (pair_of c n ∷ pairs_of c r ++ h.after) =
+            append_assoc (pairs_of c' t') (pair_of c' n ∷ pairs_of c' r) h.after ∙ (λ i. pairs_of c' t' ++ (same_here i ∷ same_right i ++ h.after)) in
+            record {
+              tree = f.tree;
+              spelled = f.spelled;
+              pairs = f.pairs ∙ ap (λ (x : Pairs). h.before ++ x) regrouped;
+              inside = λ m i. f.inside m (inr (inl i));
+              outside = λ m i no. ⊎_elim (λ j. ⊎_elim (λ e. f.inside m (inl e)) (λ j'. ⊎_elim (λ x. absurd (no x)) (λ x. f.inside m (inr (inr x))) j') j) (λ j. f.outside m i j) (is_in_or_not m (Fork n l r));
+              unmarked = f.unmarked;
+              no_right = f.no_right;
+              no_parent = f.no_parent;
+            };
       }
 
   -- the walk goes right below a node with a smaller key
@@ -165,40 +165,40 @@ module _ (kind : Kind) (slots : ℕ) (c : Cells) (ps : Pairs) where
         unmarked = node.unmarked;
         apart = a.not_right;
         fill = λ c' t' framed spelled.
-          let far : (m : ℕ) → IsNode slots m → IsEven (c m Version) → (IsIn m (Fork n l r) → ⊥) → (f : Field) → c' m f ≡ c m f =
-              λ m is even no f. framed.elsewhere m is even (λ i. no (inr (inr i))) (λ e. no (inl e)) f in
-          let upper : (f : Field) → c' above f ≡ c above f = λ f. far above h.node h.unmarked h.apart f in
-          let left : (m : ℕ) → IsIn m l → (f : Field) → c' m f ≡ c m f =
-              λ m i f. let s : IsSlot slots m = in_l m i in framed.elsewhere m (omega arith, omega arith) (even_l m i) (λ j. a.not_both m i j) (λ e. a.not_left (subst (λ (x : ℕ). IsIn x l) e i)) f in
-          let up : Framed slots c c' above side (Fork n l r) = record {
-            elsewhere = λ m is even no _ f. far m is even no f;
-            key = upper Key;
-            value = upper Value;
-            parent = upper Parent;
-            height = upper Height;
-            other = upper (other_link side);
-            unmarked = rw (upper Version) h.unmarked
-          } in
-          let left_link : Spells kind slots c' l n (c' n Left) = rw framed.other (spells_same kind slots c c' l n (c n Left) left h.spelled.2) in
-          let there : Spells kind slots c' (Fork n l t') above (c' above side) =
-              (upper side ∙ h.spelled.0, tree_node_same kind slots c c' above n framed.unmarked framed.parent framed.height node, left_link, spelled) in
-          let f : Filled kind slots c' whole (Fork n l r) (Fork n l t') h.before h.after = h.fill c' (Fork n l t') up there in
-          let same_left : pairs_of c' l ≡ pairs_of c l = pairs_same c c' l left in
-          let same_here : pair_of c' n ≡ pair_of c n = λ i. (framed.key i, framed.value i) in
-          let regrouped : h.before ++ (pairs_of c' (Fork n l t') ++ h.after) ≡ (h.before ++ (pairs_of c l ++ (pair_of c n ∷ []))) ++ (pairs_of c' t' ++ h.after) =
-              (λ i. h.before ++ ((same_left i ++ (same_here i ∷ pairs_of c' t')) ++ h.after))
-              ∙ ap (λ (x : Pairs). h.before ++ x) (append_assoc (pairs_of c l) (pair_of c n ∷ pairs_of c' t') h.after ∙ sym (append_assoc (pairs_of c l) (pair_of c n ∷ []) (pairs_of c' t' ++ h.after)))
-              ∙ sym (append_assoc h.before (pairs_of c l ++ (pair_of c n ∷ [])) (pairs_of c' t' ++ h.after)) in
-          record {
-            tree = f.tree;
-            spelled = f.spelled;
-            pairs = f.pairs ∙ regrouped;
-            inside = λ m i. f.inside m (inr (inr i));
-            outside = λ m i no. ⊎_elim (λ j. ⊎_elim (λ e. f.inside m (inl e)) (λ j'. ⊎_elim (λ x. f.inside m (inr (inl x))) (λ x. absurd (no x)) j') j) (λ j. f.outside m i j) (is_in_or_not m (Fork n l r));
-            unmarked = f.unmarked;
-            no_right = f.no_right;
-            no_parent = f.no_parent
-          }
+            let far : (m : ℕ) → IsNode slots m → IsEven (c m Version) → (IsIn m (Fork n l r) → ⊥) → (f : Field) → c' m f ≡ c m f =
+            λ m is even no f. framed.elsewhere m is even (λ i. no (inr (inr i))) (λ e. no (inl e)) f in
+            let upper : (f : Field) → c' above f ≡ c above f = λ f. far above h.node h.unmarked h.apart f in
+            let left : (m : ℕ) → IsIn m l → (f : Field) → c' m f ≡ c m f =
+            λ m i f. let s : IsSlot slots m = in_l m i in framed.elsewhere m (omega arith, omega arith) (even_l m i) (λ j. a.not_both m i j) (λ e. a.not_left (subst (λ (x : ℕ). IsIn x l) e i)) f in
+            let up : Framed slots c c' above side (Fork n l r) = record {
+              elsewhere = λ m is even no _ f. far m is even no f;
+              key = upper Key;
+              value = upper Value;
+              parent = upper Parent;
+              height = upper Height;
+              other = upper (other_link side);
+              unmarked = rw (upper Version) h.unmarked;
+            } in
+            let left_link : Spells kind slots c' l n (c' n Left) = rw framed.other (spells_same kind slots c c' l n (c n Left) left h.spelled.2) in
+            let there : Spells kind slots c' (Fork n l t') above (c' above side) =
+            (upper side ∙ h.spelled.0, tree_node_same kind slots c c' above n framed.unmarked framed.parent framed.height node, left_link, spelled) in
+            let f : Filled kind slots c' whole (Fork n l r) (Fork n l t') h.before h.after = h.fill c' (Fork n l t') up there in
+            let same_left : pairs_of c' l ≡ pairs_of c l = pairs_same c c' l left in
+            let same_here : pair_of c' n ≡ pair_of c n = λ i. (framed.key i, framed.value i) in
+            let regrouped : h.before ++ (pairs_of c' (Fork n l t') ++ h.after) ≡ (h.before ++ (pairs_of c l ++ (pair_of c n ∷ []))) ++ (pairs_of c' t' ++ h.after) =
+            (λ i. h.before ++ ((same_left i ++ (same_here i ∷ pairs_of c' t')) ++ h.after))
+            ∙ ap (λ (x : Pairs). h.before ++ x) (append_assoc (pairs_of c l) (pair_of c n ∷ pairs_of c' t') h.after ∙ sym (append_assoc (pairs_of c l) (pair_of c n ∷ []) (pairs_of c' t' ++ h.after)))
+            ∙ sym (append_assoc h.before (pairs_of c l ++ (pair_of c n ∷ [])) (pairs_of c' t' ++ h.after)) in
+            record {
+              tree = f.tree;
+              spelled = f.spelled;
+              pairs = f.pairs ∙ regrouped;
+              inside = λ m i. f.inside m (inr (inr i));
+              outside = λ m i no. ⊎_elim (λ j. ⊎_elim (λ e. f.inside m (inl e)) (λ j'. ⊎_elim (λ x. f.inside m (inr (inl x))) (λ x. absurd (no x)) j') j) (λ j. f.outside m i j) (is_in_or_not m (Fork n l r));
+              unmarked = f.unmarked;
+              no_right = f.no_right;
+              no_parent = f.no_parent;
+            };
       }
 
   even_or_odd : (n : ℕ) → IsEven n ⊎ (n % 2 ≡ 1)
@@ -224,5 +224,5 @@ module _ (kind : Kind) (slots : ℕ) (c : Cells) (ps : Pairs) where
             (λ odd. f.inside n (covers n slot even (inr odd))) (even_or_odd (c n Version));
         unmarked = f.unmarked;
         no_right = f.no_right;
-        no_parent = f.no_parent
+        no_parent = f.no_parent;
       }

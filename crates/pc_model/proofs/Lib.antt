@@ -9,4 +9,5 @@ pub mod Sizes
 pub mod SortedLists
 pub mod Soundness
 pub mod Worked
+pub mod WorkedCells
 pub mod Writes

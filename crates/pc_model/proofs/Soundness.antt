@@ -1,12 +1,11 @@
 -- What holds of every search tree of cells: of versions only parity matters, and a tree without a free
 -- slot has a pair for each slot.
-use Rattle.std.proofs.Common.{◌≡◌, ◌≢◌, ℕ, ◌+◌, ◌%◌, ◌<◌, ◌≤◌, ◌⊎◌, inl, inr, ⊎_elim, List, [], ◌∷◌, ◌++◌, length, refl, sym, ap, ◌∙◌, subst, arith}
-use Rattle.pc_model.specs.declared.cell.Field.{Field}
+use Rattle.std.proofs.Common.{◌≡◌, ℕ, ◌+◌, ◌≤◌, ◌∷◌, ◌++◌, length, refl, sym, ap, ◌∙◌, subst, arith}
 use Rattle.pc_model.specs.declared.cell.Field.TheVariants.{Version, Key, Value, Left, Right, Parent, Height}
 use Rattle.pc_model.specs.Map.{Pairs, IsRising}
 use Rattle.pc_model.specs.Cells.{Cells, IsEven, IsSlot, SameButVersions}
-use Rattle.pc_model.specs.Trees.{Tree, Empty, Fork, Kind, IsTreeNode, Spells, IsIn, size_of, pair_of, pairs_of, IsSearchTree}
-use Rattle.pc_model.proofs.Framing.{tree_node_same, slot_in}
+use Rattle.pc_model.specs.Trees.{Tree, Empty, Fork, Kind, Spells, size_of, pairs_of, IsSearchTree}
+use Rattle.pc_model.proofs.Framing.{tree_node_same}
 use Rattle.pc_model.proofs.Counting.{length-pairs_of, size-le-slots, slots-le-size}
 
 module _ (kind : Kind) (slots : ℕ) (c c' : Cells) (same : SameButVersions slots c c') where
@@ -51,7 +50,7 @@ module _ (kind : Kind) (slots : ℕ) (c c' : Cells) (same : SameButVersions slot
         covered = λ n slot even. s.covered n slot (parity_even n slot.1 even);
         unmarked = even_still 1 (omega arith) s.unmarked;
         no_right = same.fields 1 Right (omega arith) (λ e. cc) ∙ s.no_right;
-        no_parent = same.fields 1 Parent (omega arith) (λ e. cc) ∙ s.no_parent
+        no_parent = same.fields 1 Parent (omega arith) (λ e. cc) ∙ s.no_parent;
       }
 
 -- where every slot is in use, there is a pair for each

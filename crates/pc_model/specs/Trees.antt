@@ -1,6 +1,5 @@
 -- The tree that cells spell, read from the sentinel's left link, and when cells are sound.
 use Rattle.std.specs.Prelude.{◌≡◌, ℕ, suc, ◌+◌, ◌^◌, ◌<◌, ◌⊎◌, List, [], ◌∷◌, ◌++◌}
-use Rattle.pc_model.specs.declared.cell.Field.{Field}
 use Rattle.pc_model.specs.declared.cell.Field.TheVariants.{Version, Key, Value, Left, Right, Parent, Height}
 use Rattle.pc_model.specs.Map.{Pairs, IsRising, AreSmall}
 use Rattle.pc_model.specs.Cells.{Cells, IsEven, IsSlot}

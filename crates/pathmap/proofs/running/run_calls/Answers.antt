@@ -5,8 +5,10 @@ use Rattle.std.proofs.lemmas.List.{take_more, length-take-le}
 use Rattle.pc_model.specs.declared.call.Call.{Call}
 use Rattle.pc_model.specs.declared.call.Call.TheVariants.{Put}
 use Rattle.pc_model.specs.declared.call.Entry.{Entry}
+use Rattle.pc_model.specs.Calls.{puts_in}
+use Rattle.pc_model.proofs.Sizes.{puts_in-take}
 use Rattle.pathmap.specs.Running.{HasRun}
-use Rattle.pathmap.proofs.Steps.{entry_at, as_long, one_more}
+use Rattle.pathmap.proofs.Steps.{entry_at, as_long, room_left, one_more}
 use Rattle.pathmap.proofs.running.run_calls.Goals as goal
 
 pub loop-i-preserved : goal.loop-i-preserved
@@ -27,3 +29,11 @@ loop-i-preserved c =
     let len : vec_len c.loop-i.history ≡ i = c.loop-i.invariant.1 in
     let room : length calls ≤ vec_capacity c.loop-i.history = c.loop-i.invariant.2 in
     (run, c.push_reserved.ensures.len ∙ ap (λ (n : ℕ). n + 1) len, subst (λ (n : ℕ). length calls ≤ n) (sym c.push_reserved.ensures.capacity) room)
+
+pub answer-reply-requires-clause-room : goal.answer-reply-requires-clause-room
+answer-reply-requires-clause-room c =
+    let i : ℕ = c.loop-i.i in
+    let calls : List Call = c.args.calls.now in
+    let size : c.args.cells.now.slots ≡ puts_in calls + 1 = c.requires.size in
+    let front : puts_in (take i calls) ≤ puts_in calls = puts_in-take i calls in
+    room_left c.args.cells.now.slots (take i calls) c.loop-i.cells c.loop-i.history.items c.loop-i.invariant.0 (omega arith)

@@ -1,9 +1,6 @@
-use Rattle.std.proofs.Common.{◌≡◌, ◌*◌, ◌+◌, ◌<◌, ◌≤◌, ℕ, refl, sym, ◌∙◌, subst, arith}
-use Rattle.pc_model.specs.Map.{Pairs}
-use Rattle.pc_model.specs.Cells.{IsNode, IsEven}
+use Rattle.std.proofs.Common.{◌≡◌, ◌*◌, ◌+◌, ◌<◌, ◌≤◌, sym, ◌∙◌, subst, arith}
 use Rattle.pc_bst.specs.declared.plan.Ask.{Ask}
 use Rattle.pc_bst.specs.declared.plan.Ask.TheVariants.{Visit, Read, Change, Answer}
-use Rattle.pc_model.specs.declared.cell.Field.TheVariants.{Version as VersionField}
 use Rattle.pc_bst.specs.declared.plan.Told.{Told}
 use Rattle.pc_bst.specs.declared.plan.Told.TheVariants.{Version, Number}
 use Rattle.pc_bst.specs.Runs.{IsRightAsk, past_of}

@@ -1,5 +1,4 @@
-use Rattle.std.proofs.Common.{[], OnOk}
-use Rattle.pc_model.specs.declared.call.Reply.{Reply}
+use Rattle.std.proofs.Common.{[]}
 use Rattle.pc_bst.specs.PlainRuns.{IsMade, RunsRight}
 use Rattle.pc_bst.proofs.RunRight.{comes_to_make, change_right, answer_right, from_reply}
 use Rattle.pc_bst.proofs.run.run_plan.Goals as goal

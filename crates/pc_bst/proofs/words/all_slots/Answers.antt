@@ -1,4 +1,4 @@
-use Rattle.std.proofs.Common.{rules, ◌≡◌, ◌+◌, ◌-◌, ◌∙◌, ap}
+use Rattle.std.proofs.Common.{rules, ◌∙◌, ap}
 use Rattle.pc_model.specs.Counts.{count}
 use Rattle.pc_bst.proofs.Opening.{one_pushed}
 use Rattle.pc_bst.proofs.words.all_slots.Goals as goal

@@ -1,5 +1,5 @@
-use Rattle.std.proofs.Common.{◌≡◌, ◌∙◌, ap, sym, subst, arith, ◌+◌, ◌≤◌}
-use Rattle.pc_model.specs.Cells.{Cells, written, opening_fields}
+use Rattle.std.proofs.Common.{◌≡◌, ◌∙◌, ap, arith, ◌+◌}
+use Rattle.pc_model.specs.Cells.{Cells, written}
 use Rattle.pc_model.specs.declared.cell.Field.TheVariants.{Version, Key}
 use Rattle.pc_bst.specs.PlainCells.{cells_in}
 use Rattle.pc_bst.proofs.Opening.{unused_below, unused_more, opened}

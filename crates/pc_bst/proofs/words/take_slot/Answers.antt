@@ -1,5 +1,4 @@
 use Rattle.std.proofs.Common.{rules}
-use Rattle.pc_bst.specs.PlainRuns.{CanTakeSlot}
 use Rattle.pc_bst.proofs.FreeSlots.{last_counted, takes_slot}
 use Rattle.pc_bst.proofs.words.take_slot.Goals as goal
 

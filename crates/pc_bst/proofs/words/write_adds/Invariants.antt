@@ -1,6 +1,6 @@
 use Rattle.std.proofs.Common.{◌≡◌, drop, length}
 use Rattle.pc_bst.specs.PlainCells.{cells_in}
-use Rattle.pc_bst.specs.PlainRuns.{with_adds, AddsReach}
+use Rattle.pc_bst.specs.PlainWriting.{with_adds, AddsReach}
 use Rattle.pc_bst.proofs.words.write_adds.Given as goal
 
 abbrev pub invariant-loop-add : goal.invariant-loop-add

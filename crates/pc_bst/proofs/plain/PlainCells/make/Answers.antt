@@ -1,7 +1,8 @@
 use Rattle.std.proofs.Common.{◌≡◌, ◌<◌, ◌++◌, [], ap, sym, ◌∙◌, subst, length, IsSome, option_to_list, vec_len, vec_capacity}
 use Rattle.pc_bst.specs.Planned.{Planned}
-use Rattle.pc_bst.specs.PlainCells.{PlainWords, cells_in, IsSoundPlain}
-use Rattle.pc_bst.specs.PlainRuns.{CanMake, with_adds, TakesSlot, AddsReach, IsMade}
+use Rattle.pc_bst.specs.PlainCells.{PlainWords, cells_in}
+use Rattle.pc_bst.specs.PlainRuns.{CanMake, IsMade}
+use Rattle.pc_bst.specs.PlainWriting.{with_adds, TakesSlot}
 use Rattle.pc_bst.proofs.Making.{made_reach, made_room, made_sound, made_is}
 use Rattle.pc_bst.proofs.plain.PlainCells.make.Goals as goal
 use Rattle.pc_bst.proofs.plain.PlainCells.make.Goals.{After-adds}
