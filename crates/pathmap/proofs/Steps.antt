@@ -11,7 +11,7 @@ use Rattle.pc_model.proofs.Replaying.{fold_from-push, right_push}
 use Rattle.pc_model.proofs.Sizes.{length-pairs_after, puts_in-push}
 use Rattle.pc_model.specs.Counts.{one_if}
 use Rattle.pc_model.specs.Calls.{is_put, puts_in}
-use Rattle.pc_bst.specs.PlainCells.{PlainWords, cells_of, IsEmptyTree}
+use Rattle.pc_plain.specs.PlainCells.{PlainWords, cells_of, IsEmptyTree}
 use Rattle.pc_bst.specs.PlainTrees.{IsPlainTree}
 use Rattle.pathmap.specs.Running.{IsOneHistory, HasRoom, AnswersAs, HasRun}
 

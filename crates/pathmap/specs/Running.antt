@@ -7,7 +7,7 @@ use Rattle.pc_model.specs.Map.{Pairs, IsRising, reply_of, pairs_after}
 use Rattle.pc_model.specs.Calls.{puts_in}
 use Rattle.pc_model.specs.Replay.{fold_of, IsRight}
 use Rattle.pc_model.specs.History.{IsHistoryOf, IsNumberedFrom, AllOfPass, calls_of}
-use Rattle.pc_bst.specs.PlainCells.{PlainWords, cells_of}
+use Rattle.pc_plain.specs.PlainCells.{PlainWords, cells_of}
 use Rattle.pc_bst.specs.PlainTrees.{IsPlainTree}
 
 -- one history of all clients: each call stands there once, in its client's order, each reply is what a

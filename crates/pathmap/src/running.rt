@@ -3,7 +3,7 @@ ghost use Rattle.std.specs.Prelude.{◌≡◌, ◌+◌, ◌<◌, ◌≤◌, ◌�
 ghost use Rattle.pc_model.specs.Calls.{is_put, puts_in};
 ghost use Rattle.pc_model.specs.Counts.{one_if};
 ghost use Rattle.pc_text.specs.ScriptFacts.{IsCallInRange, IsPutOrGet};
-ghost use Rattle.pc_bst.specs.PlainCells.{IsEmptyTree};
+ghost use Rattle.pc_plain.specs.PlainCells.{IsEmptyTree};
 ghost use Rattle.pathmap.specs.Running.{IsOneHistory, HasRoom, AnswersAs, HasRun};
 
 use pc_bst::{BstGet, BstPut, PlainCells, pairs, run_plan};

@@ -2,26 +2,27 @@
 use Rattle.std.proofs.Common.{◌≡◌, ℕ, ◌+◌, ◌*◌, ◌≤◌, inl, List, [], length, Some, None, refl, sym, ap, arith}
 use Rattle.pc_model.specs.declared.call.Call.TheVariants.{Get}
 use Rattle.pc_model.specs.declared.cell.Field.TheVariants.{Value as ValueField}
-use Rattle.pc_model.specs.Map.{Pairs, value_at, value_or_nothing}
+use Rattle.pc_model.specs.Map.{Pairs, IsKey, value_at, value_or_nothing}
 use Rattle.pc_model.specs.Cells.{Cells, IsSlot}
 use Rattle.pc_model.specs.Trees.{plain, IsTreeNode, IsSearchTree}
 use Rattle.pc_model.proofs.HolePairs.{value_at-hole, value_at-empty_hole}
-use Rattle.pc_bst.specs.declared.plan.Ask.{Ask}
-use Rattle.pc_bst.specs.declared.plan.Told.{Told}
-use Rattle.pc_bst.specs.declared.plan.Told.TheVariants.{Begin, Version, Number}
+use Rattle.pc_plan.specs.declared.plan.Ask.{Ask}
+use Rattle.pc_plan.specs.declared.plan.Told.{Told}
+use Rattle.pc_plan.specs.declared.plan.Told.TheVariants.{Begin, Version, Number}
 use Rattle.pc_bst.specs.declared.walk.Walk.{Walk}
 use Rattle.pc_bst.specs.declared.walk.Step.{Step}
 use Rattle.pc_bst.specs.declared.walk.Step.TheVariants.{Visit, Read, Found, Missing, Astray}
 use Rattle.pc_bst.specs.declared.get.GetPhase.{GetPhase}
 use Rattle.pc_bst.specs.declared.get.GetPhase.TheVariants.{Walking, Reading, Ended}
-use Rattle.pc_bst.specs.Traces.{Event, learned, learned_along, after, reads_since_visit}
-use Rattle.pc_bst.specs.Runs.{Runs, IsReady}
-use Rattle.pc_bst.specs.Lawful.{IsWord, IsLawfulAsk, IsLawful}
-use Rattle.pc_bst.specs.Lawfulness.{kept_along, StepStands, Waits, walk_stands, waits_lawful, is_some-seen}
+use Rattle.pc_plan.specs.Traces.{Event, learned, learned_along, after, reads_since_visit}
+use Rattle.pc_plan.specs.Runs.{Runs, IsReady}
+use Rattle.pc_plan.specs.Lawful.{IsWord, IsLawfulAsk, IsLawful}
+use Rattle.pc_plan.proofs.Learning.{kept_along, is_some-seen}
+use Rattle.pc_bst.specs.WalkLawful.{StepStands, Waits, walk_stands, waits_lawful}
 use Rattle.pc_bst.specs.Walks.{walk_step}
-use Rattle.pc_bst.specs.Gets.{IsKey, get_call, get_of, get_walked, get_moves}
+use Rattle.pc_bst.specs.Gets.{get_call, get_of, get_walked, get_moves}
 use Rattle.pc_bst.specs.PlainTrees.{IsPlainTree}
-use Rattle.pc_bst.specs.Courses.{Course, course_goes, course_ends}
+use Rattle.pc_plan.proofs.Courses.{Course, course_goes, course_ends}
 use Rattle.pc_bst.specs.WalkCourses.{walk_course}
 
 module _ (slots : ℕ) (c : Cells) (ps : Pairs) (k : ℕ) (ready : IsReady IsPlainTree slots c ps) where

@@ -5,19 +5,16 @@ use Rattle.pc_model.specs.declared.call.Call.{Call}
 use Rattle.pc_model.specs.declared.call.Call.TheVariants.{Get}
 use Rattle.pc_model.specs.declared.call.Reply.{Reply}
 use Rattle.pc_model.specs.declared.call.Reply.TheVariants.{Value, None as Nothing}
-use Rattle.pc_bst.specs.declared.plan.Ask.{Ask}
-use Rattle.pc_bst.specs.declared.plan.Ask.TheVariants.{Visit as AskVisit, Read as AskRead, Answer}
-use Rattle.pc_bst.specs.declared.plan.Told.{Told}
-use Rattle.pc_bst.specs.declared.plan.Told.TheVariants.{Number}
+use Rattle.pc_plan.specs.declared.plan.Ask.{Ask}
+use Rattle.pc_plan.specs.declared.plan.Ask.TheVariants.{Visit as AskVisit, Read as AskRead, Answer}
+use Rattle.pc_plan.specs.declared.plan.Told.{Told}
+use Rattle.pc_plan.specs.declared.plan.Told.TheVariants.{Number}
 use Rattle.pc_bst.specs.declared.walk.Walk.{Walk}
 use Rattle.pc_bst.specs.declared.walk.Step.{Step}
 use Rattle.pc_bst.specs.declared.walk.Step.TheVariants.{Visit, Read, Found, Missing, Astray}
 use Rattle.pc_bst.specs.declared.get.GetPhase.{GetPhase}
 use Rattle.pc_bst.specs.declared.get.GetPhase.TheVariants.{Walking, Reading, Ended}
 use Rattle.pc_bst.specs.Walks.{walk_of, walk_step}
-
-abbrev pub IsKey : ℕ → Type 0
-IsKey k = k ≤ 999999999999999999
 
 abbrev pub get_call : ℕ → Option Call
 get_call k = Some (Get k)

@@ -2,7 +2,7 @@
 use Rattle.pc_model.specs.Trees.{plain}
 use Rattle.pc_model.proofs.Soundness.{search_tree_parity, search_tree_full}
 use Rattle.pc_bst.specs.PlainTrees.{IsPlainTree}
-use Rattle.pc_bst.specs.Runs.{KeepsParity, CountsSlots}
+use Rattle.pc_plan.specs.Runs.{KeepsParity, CountsSlots}
 
 pub plain_parity : KeepsParity IsPlainTree
 plain_parity = record { kept = λ slots c c' ps same s. search_tree_parity plain slots c c' same ps s }

@@ -12,8 +12,8 @@ use Rattle.pc_model.proofs.Writes.{written-here, written-other_node, written-oth
 use Rattle.pc_model.proofs.Framing.{Apart, tree_node_same, spells_same, pairs_same}
 use Rattle.pc_model.proofs.Holes.{Hole, Framed, other_link, hole_apart, refilled}
 use Rattle.pc_model.proofs.HolePairs.{put-hole, put-empty_hole}
-use Rattle.pc_bst.specs.declared.change.Fresh.{Fresh}
-use Rattle.pc_bst.specs.Runs.{IsReady, fresh_fields}
+use Rattle.pc_plan.specs.declared.change.Fresh.{Fresh}
+use Rattle.pc_plan.specs.Runs.{IsReady, fresh_fields}
 use Rattle.pc_bst.specs.PlainTrees.{IsPlainTree}
 
 -- a version two higher, which stays below the end of numbers where it is small

@@ -5,30 +5,31 @@ use Rattle.std.specs.Prelude.{◌-◌, min}
 use Rattle.pc_model.specs.declared.call.Call.TheVariants.{Put}
 use Rattle.pc_model.specs.declared.cell.Field.{Field}
 use Rattle.pc_model.specs.declared.cell.Field.TheVariants.{Version as VersionField, Key as KeyField, Value as ValueField, Left, Right}
-use Rattle.pc_model.specs.Map.{Pairs, value_at, put, was_or_new}
+use Rattle.pc_model.specs.Map.{Pairs, IsPair, value_at, put, was_or_new}
 use Rattle.pc_model.specs.Cells.{Cells, IsEven, IsOdd, IsSlot, IsNode}
 use Rattle.pc_model.specs.Trees.{Tree, Empty, Fork, plain, IsTreeNode}
 use Rattle.pc_model.proofs.Holes.{Hole}
 use Rattle.pc_model.proofs.HolePairs.{value_at-hole, value_at-empty_hole}
-use Rattle.pc_bst.specs.declared.change.To.TheVariants.{Number as ToNumber, Fresh as ToFresh}
-use Rattle.pc_bst.specs.declared.plan.Ask.{Ask}
-use Rattle.pc_bst.specs.declared.plan.Ask.TheVariants.{Read as AskRead}
-use Rattle.pc_bst.specs.declared.plan.Told.{Told}
-use Rattle.pc_bst.specs.declared.plan.Told.TheVariants.{Begin, Version, Number}
+use Rattle.pc_plan.specs.declared.change.To.TheVariants.{Number as ToNumber, Fresh as ToFresh}
+use Rattle.pc_plan.specs.declared.plan.Ask.{Ask}
+use Rattle.pc_plan.specs.declared.plan.Ask.TheVariants.{Read as AskRead}
+use Rattle.pc_plan.specs.declared.plan.Told.{Told}
+use Rattle.pc_plan.specs.declared.plan.Told.TheVariants.{Begin, Version, Number}
 use Rattle.pc_bst.specs.declared.walk.Walk.{Walk}
 use Rattle.pc_bst.specs.declared.walk.Step.{Step}
 use Rattle.pc_bst.specs.declared.walk.Step.TheVariants.{Visit, Read, Found, Missing, Astray}
 use Rattle.pc_bst.specs.declared.put.PutPhase.{PutPhase}
 use Rattle.pc_bst.specs.declared.put.PutPhase.TheVariants.{Walking, Reading, Ended}
-use Rattle.pc_bst.specs.Planned.{Planned}
-use Rattle.pc_bst.specs.Traces.{Event, found, learned, learned_along, after, version_seen, number_seen, reads_since_visit}
-use Rattle.pc_bst.specs.Lawful.{IsWord, IsToldWord, IsLawfulAsk, IsLawfulChange, IsLawful}
-use Rattle.pc_bst.specs.Lawfulness.{kept_along, IsSide, StepStands, Waits, walk_stands, waits_lawful, is_some-seen, number_seen-here}
-use Rattle.pc_bst.specs.Runs.{Runs, IsReady, FitsWord}
+use Rattle.pc_plan.specs.Planned.{Planned}
+use Rattle.pc_plan.specs.Traces.{Event, found, learned, learned_along, after, version_seen, number_seen, reads_since_visit}
+use Rattle.pc_plan.specs.Lawful.{IsSide, IsWord, IsToldWord, IsLawfulAsk, IsLawfulChange, IsLawful}
+use Rattle.pc_plan.proofs.Learning.{kept_along, is_some-seen, number_seen-here}
+use Rattle.pc_bst.specs.WalkLawful.{StepStands, Waits, walk_stands, waits_lawful}
+use Rattle.pc_plan.specs.Runs.{Runs, IsReady, FitsWord}
 use Rattle.pc_bst.specs.Walks.{walk_step}
-use Rattle.pc_bst.specs.Puts.{IsPair, put_call, put_of, put_walked, put_moves, raised, value_changed, leaf_added}
+use Rattle.pc_bst.specs.Puts.{put_call, put_of, put_walked, put_moves, raised, value_changed, leaf_added}
 use Rattle.pc_bst.specs.PlainTrees.{IsPlainTree}
-use Rattle.pc_bst.specs.Courses.{Course, IsRightEnd, course_goes, course_ends}
+use Rattle.pc_plan.proofs.Courses.{Course, IsRightEnd, course_goes, course_ends}
 use Rattle.pc_bst.specs.WalkCourses.{walk_course}
 use Rattle.pc_bst.specs.PutEnds.{with_value-parity, value_leaves, with_leaf, with_leaf-parity, with_leaf-even, leaf_leaves}
 

@@ -5,22 +5,19 @@ use Rattle.pc_model.specs.declared.cell.Field.TheVariants.{Version as VersionFie
 use Rattle.pc_model.specs.declared.call.Call.{Call}
 use Rattle.pc_model.specs.declared.call.Call.TheVariants.{Put}
 use Rattle.pc_model.specs.declared.call.Reply.TheVariants.{New, Was, None as Nothing}
-use Rattle.pc_bst.specs.declared.change.To.TheVariants.{Number as ToNumber, Fresh as ToFresh}
-use Rattle.pc_bst.specs.declared.change.Add.{Add}
-use Rattle.pc_bst.specs.declared.plan.Ask.{Ask}
-use Rattle.pc_bst.specs.declared.plan.Ask.TheVariants.{Visit as AskVisit, Read as AskRead, Change, Answer}
-use Rattle.pc_bst.specs.declared.plan.Told.{Told}
-use Rattle.pc_bst.specs.declared.plan.Told.TheVariants.{Number}
+use Rattle.pc_plan.specs.declared.change.To.TheVariants.{Number as ToNumber, Fresh as ToFresh}
+use Rattle.pc_plan.specs.declared.change.Add.{Add}
+use Rattle.pc_plan.specs.declared.plan.Ask.{Ask}
+use Rattle.pc_plan.specs.declared.plan.Ask.TheVariants.{Visit as AskVisit, Read as AskRead, Change, Answer}
+use Rattle.pc_plan.specs.declared.plan.Told.{Told}
+use Rattle.pc_plan.specs.declared.plan.Told.TheVariants.{Number}
 use Rattle.pc_bst.specs.declared.walk.Walk.{Walk}
 use Rattle.pc_bst.specs.declared.walk.Step.{Step}
 use Rattle.pc_bst.specs.declared.walk.Step.TheVariants.{Visit, Read, Found, Missing, Astray}
 use Rattle.pc_bst.specs.declared.put.PutPhase.{PutPhase}
 use Rattle.pc_bst.specs.declared.put.PutPhase.TheVariants.{Walking, Reading, Ended}
-use Rattle.pc_bst.specs.Planned.{Planned}
+use Rattle.pc_plan.specs.Planned.{Planned}
 use Rattle.pc_bst.specs.Walks.{walk_of, walk_step}
-
-abbrev pub IsPair : ℕ × ℕ → Type 0
-IsPair p = (p.0 ≤ 999999999999999999) × (p.1 ≤ 999999999999999999)
 
 abbrev pub put_call : ℕ × ℕ → Option Call
 put_call p = Some (Put p.0 p.1)

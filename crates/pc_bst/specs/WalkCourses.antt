@@ -7,40 +7,29 @@ use Rattle.pc_model.specs.declared.call.Call.{Call}
 use Rattle.pc_model.specs.declared.cell.Field.{Field}
 use Rattle.pc_model.specs.declared.cell.Field.TheVariants.{Version as VersionField, Key as KeyField, Left, Right}
 use Rattle.pc_model.specs.Map.{Pairs}
-use Rattle.pc_model.specs.Cells.{Cells, IsSlot}
+use Rattle.pc_model.specs.Cells.{Cells, IsSlot, node_at}
+use Rattle.pc_model.proofs.Links.{node_at-node}
 use Rattle.pc_model.specs.Trees.{Tree, Empty, Fork, Kind, IsTreeNode, IsIn, size_of, IsSearchTree}
 use Rattle.pc_model.proofs.Framing.{Apart, slot_in}
 use Rattle.pc_model.proofs.Soundness.{search_tree_size}
 use Rattle.pc_model.proofs.Holes.{Hole, root_hole, hole_apart, left_hole, right_hole}
-use Rattle.pc_bst.specs.declared.plan.Ask.{Ask}
-use Rattle.pc_bst.specs.declared.plan.Ask.TheVariants.{Visit as AskVisit, Read as AskRead}
-use Rattle.pc_bst.specs.declared.plan.Told.{Told}
-use Rattle.pc_bst.specs.declared.plan.Told.TheVariants.{Begin, Version, Number}
+use Rattle.pc_plan.specs.declared.plan.Ask.{Ask}
+use Rattle.pc_plan.specs.declared.plan.Ask.TheVariants.{Visit as AskVisit, Read as AskRead}
+use Rattle.pc_plan.specs.declared.plan.Told.{Told}
+use Rattle.pc_plan.specs.declared.plan.Told.TheVariants.{Begin, Version, Number}
 use Rattle.pc_bst.specs.declared.walk.Awaited.{Awaited}
 use Rattle.pc_bst.specs.declared.walk.Awaited.TheVariants.{Version as AVersion, Key as AKey, Link as ALink}
 use Rattle.pc_bst.specs.declared.walk.Walk.{Walk}
 use Rattle.pc_bst.specs.declared.walk.Step.{Step}
 use Rattle.pc_bst.specs.declared.walk.Step.TheVariants.{Visit, Read, Found, Missing}
-use Rattle.pc_bst.specs.Traces.{Event, visited, found, version_seen}
-use Rattle.pc_bst.specs.Walks.{node_at, walk_of, reading_link, arriving, comparing, following, walk_step}
-use Rattle.pc_bst.specs.Courses.{Course, more_turns}
+use Rattle.pc_plan.specs.Traces.{Event, visited, found, version_seen}
+use Rattle.pc_bst.specs.Walks.{walk_of, reading_link, arriving, comparing, following, walk_step}
+use Rattle.pc_plan.proofs.Courses.{Course, more_turns}
+use Rattle.pc_plan.proofs.Learning.{version_seen-else}
 
 -- a walk that has come to a node
 abbrev pub walk_at : ℕ → ℕ → ℕ → Awaited → Walk
 walk_at k n v a = record { key = k; node = n; version = v; awaited = a }
-
--- the number of a node is a link to it
-pub node_at-node : (n : ℕ) → 1 ≤ n → n ≤ 4294967295 → node_at n ≡ Some n
-node_at-node n above below =
-    let not_zero : (n == 0) ≡ false = ne_eqb n 0 (λ e. absurd (omega arith)) in
-    let small : nat_lt 4294967295 n ≡ false = le-ltb 4294967295 n below in
-    cond-false (n == 0) None (if nat_lt 4294967295 n then None else Some n) not_zero ∙ cond-false (nat_lt 4294967295 n) None (Some n) small
-
-pub version_seen-here : (n v : ℕ) (past : List Event) → version_seen n (visited n v ∷ past) ≡ Some v
-version_seen-here n v past = cond-true (n == n) (Some v) (version_seen n past) (eq-eqb n n refl)
-
-pub version_seen-else : (n m v : ℕ) (past : List Event) → m ≢ n → version_seen n (visited m v ∷ past) ≡ version_seen n past
-version_seen-else n m v past ne = cond-false (m == n) (Some v) (version_seen n past) (ne_eqb m n ne)
 
 arriving-root : (k v v' : ℕ) (a : Awaited) → arriving (walk_at k 1 v a) v' ≡ reading_link (walk_at k 1 v' a) Left
 arriving-root k v v' a = refl

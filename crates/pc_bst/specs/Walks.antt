@@ -2,17 +2,14 @@
 use Rattle.std.specs.Prelude.{ℕ, ◌==◌, nat_lt, if◌then◌else◌, Option, Some, None}
 use Rattle.pc_model.specs.declared.cell.Field.{Field}
 use Rattle.pc_model.specs.declared.cell.Field.TheVariants.{Key as KeyField, Left, Right}
-use Rattle.pc_bst.specs.declared.plan.Told.{Told}
-use Rattle.pc_bst.specs.declared.plan.Told.TheVariants.{Begin, Version, Number}
+use Rattle.pc_model.specs.Cells.{node_at}
+use Rattle.pc_plan.specs.declared.plan.Told.{Told}
+use Rattle.pc_plan.specs.declared.plan.Told.TheVariants.{Begin, Version, Number}
 use Rattle.pc_bst.specs.declared.walk.Awaited.{Awaited}
 use Rattle.pc_bst.specs.declared.walk.Awaited.TheVariants.{Begin as ToBegin, Version as AVersion, Key as AKey, Link as ALink}
 use Rattle.pc_bst.specs.declared.walk.Walk.{Walk}
 use Rattle.pc_bst.specs.declared.walk.Step.{Step}
 use Rattle.pc_bst.specs.declared.walk.Step.TheVariants.{Visit, Read, Found, Missing, Astray}
-
--- the node that a link names: none where it is 0 or too great for a node's number
-abbrev pub node_at : ℕ → Option ℕ
-node_at link = if link == 0 then None else if nat_lt 4294967295 link then None else Some link
 
 abbrev pub walk_of : ℕ → Walk
 walk_of k = record { key = k; node = 1; version = 0; awaited = ToBegin }

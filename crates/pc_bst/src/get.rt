@@ -1,9 +1,9 @@
 //! The plan of a get: the walk, and where it finds the key, the value there.
 ghost use Rattle.std.specs.Prelude.{◌≡◌};
 
-use crate::plan::{Ask, Plan, Told};
 use crate::walk::{Step, Walk};
-use pc_model::{Call, Field, Reply};
+use pc_model::{Call, Field, Reply, Settle};
+use pc_plan::{Ask, Plan, Told};
 use std::marker::Model;
 
 /// Where a get is: on its walk, waiting for the value, or at its end.
@@ -29,7 +29,9 @@ impl Model for BstGet {
 }
 
 impl Plan for BstGet {
-    ghost use Rattle.pc_bst.specs.Gets.{get_of, get_moves, IsKey, get_call};
+    ghost use Rattle.pc_plan.specs.Lawful.{no_settlement, no_settlement-nothing};
+    ghost use Rattle.pc_model.specs.Map.{IsKey};
+    ghost use Rattle.pc_bst.specs.Gets.{get_of, get_moves, get_call};
     ghost use Rattle.pc_bst.specs.GetLaws.{get_runs, get_lawful};
     ghost use Rattle.pc_bst.specs.PlainTrees.{IsPlainTree};
     ghost use Rattle.pc_bst.specs.PlainTreeLaws.{plain_parity, plain_full};
@@ -44,6 +46,8 @@ impl Plan for BstGet {
 
     ghost call_of = { get_call };
 
+    ghost settlement = { no_settlement };
+
     ghost sound = { IsPlainTree };
 
     ghost runs = { get_runs };
@@ -53,6 +57,8 @@ impl Plan for BstGet {
     ghost full = { plain_full };
 
     ghost lawful = { get_lawful };
+
+    ghost settles_nothing = { no_settlement-nothing get_call };
 
     fn begin(call: u64) -> BstGet {
         BstGet {
@@ -70,6 +76,10 @@ impl Plan for BstGet {
 
     fn entry(call: u64) -> Option<Call> {
         Some(Call::Get { key: call })
+    }
+
+    fn settles(_call: u64, _reply: Reply) -> Settle {
+        Settle::Nothing
     }
 }
 

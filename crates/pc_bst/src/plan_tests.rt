@@ -1,16 +1,13 @@
 //! The plans as they are told a small table of cells by hand, and as they run on plain cells.
 ghost use Rattle.std.specs.Prelude.{◌≤◌, IfOk};
-ghost use Rattle.pc_bst.specs.PlainRuns.{HoldsPairs};
+ghost use Rattle.pc_plain.specs.PlainRuns.{HoldsPairs};
 ghost use Rattle.pc_bst.specs.PlainTrees.{IsPlainTree};
 
-use crate::change::{Add, Change, Fresh, To};
 use crate::get::BstGet;
-use crate::plain::{NoPlainSlot, PlainCells};
-use crate::plan::{Ask, Plan, Told};
 use crate::put::BstPut;
-use crate::run::run_plan;
-use crate::tree_pairs::pairs;
 use pc_model::{Call, Field, Memory, Reply};
+use pc_plain::{NoPlainSlot, PlainCells, pairs, run_plan};
+use pc_plan::{Add, Ask, Change, Fresh, Plan, To, Told};
 use std::alloc::Global;
 use std::test::Fail;
 

@@ -3,10 +3,9 @@
 ghost use Rattle.std.specs.Prelude.{◌≡◌};
 ghost use Rattle.pc_bst.specs.Puts.{raised, value_changed, leaf_added};
 
-use crate::change::{Add, Change, Fresh, To};
-use crate::plan::{Ask, Plan, Told};
 use crate::walk::{Step, Walk};
-use pc_model::{Call, Field, Reply};
+use pc_model::{Call, Field, Reply, Settle};
+use pc_plan::{Add, Ask, Change, Fresh, Plan, To, Told};
 use std::marker::Model;
 
 /// Where a put is: on its walk with its value, waiting for the old value of a node that it visited
@@ -33,7 +32,9 @@ impl Model for BstPut {
 }
 
 impl Plan for BstPut {
-    ghost use Rattle.pc_bst.specs.Puts.{put_of, put_moves, IsPair, put_call};
+    ghost use Rattle.pc_plan.specs.Lawful.{no_settlement, no_settlement-nothing};
+    ghost use Rattle.pc_model.specs.Map.{IsPair};
+    ghost use Rattle.pc_bst.specs.Puts.{put_of, put_moves, put_call};
     ghost use Rattle.pc_bst.specs.PutLaws.{put_runs, put_lawful};
     ghost use Rattle.pc_bst.specs.PlainTrees.{IsPlainTree};
     ghost use Rattle.pc_bst.specs.PlainTreeLaws.{plain_parity, plain_full};
@@ -48,6 +49,8 @@ impl Plan for BstPut {
 
     ghost call_of = { put_call };
 
+    ghost settlement = { no_settlement };
+
     ghost sound = { IsPlainTree };
 
     ghost runs = { put_runs };
@@ -57,6 +60,8 @@ impl Plan for BstPut {
     ghost full = { plain_full };
 
     ghost lawful = { put_lawful };
+
+    ghost settles_nothing = { no_settlement-nothing put_call };
 
     fn begin(call: (u64, u64)) -> BstPut {
         BstPut {
@@ -83,6 +88,10 @@ impl Plan for BstPut {
             key: call.0,
             value: call.1,
         })
+    }
+
+    fn settles(_call: (u64, u64), _reply: Reply) -> Settle {
+        Settle::Nothing
     }
 }
 

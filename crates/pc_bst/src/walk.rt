@@ -1,9 +1,10 @@
 //! The walk from the sentinel to a key, which every plan of the tree begins with.
 ghost use Rattle.std.specs.Prelude.{◌≡◌};
-ghost use Rattle.pc_bst.specs.Walks.{walk_of, walk_step, node_at, visiting, reading_link, arriving, comparing};
+ghost use Rattle.pc_model.specs.Cells.{node_at};
+ghost use Rattle.pc_bst.specs.Walks.{walk_of, walk_step, visiting, reading_link, arriving, comparing};
 
-use crate::plan::Told;
 use pc_model::Field;
+use pc_plan::Told;
 
 /// The number of the sentinel. The root is its left child.
 const SENTINEL: u32 = 1;

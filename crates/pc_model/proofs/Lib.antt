@@ -3,6 +3,7 @@ pub mod Framing
 pub mod Histories
 pub mod HolePairs
 pub mod Holes
+pub mod Links
 pub mod MapLawProofs
 pub mod Replaying
 pub mod Sizes

@@ -1,6 +1,6 @@
 -- Cells: the numbers that the fields of all nodes hold. Node 0 is no node, node 1 is the sentinel, and
 -- the slots are numbered from 2 on.
-use Rattle.std.specs.Prelude.{◌≡◌, ◌≢◌, ℕ, ◌+◌, ◌%◌, ◌^◌, ◌<◌, ◌≤◌, ◌==◌, if◌then◌else◌}
+use Rattle.std.specs.Prelude.{◌≡◌, ◌≢◌, ℕ, ◌+◌, ◌%◌, ◌^◌, ◌<◌, ◌≤◌, ◌==◌, nat_lt, if◌then◌else◌, Option, Some, None}
 use Rattle.pc_model.specs.declared.cell.Field.{Field}
 use Rattle.pc_model.specs.declared.cell.Field.TheVariants.{Version, Key, Value, Left, Right, Parent, Height, Spare}
 
@@ -39,6 +39,10 @@ written n f v c = λ m g. if field_number g == field_number f then (if m == n th
 -- the cells with these fields at this node
 abbrev pub with_node : ℕ → (Field → ℕ) → Cells → Cells
 with_node n fields c = λ m g. if m == n then fields g else c m g
+
+-- the node that a link names: none where it is 0 or too great for a node's number
+abbrev pub node_at : ℕ → Option ℕ
+node_at link = if link == 0 then None else if nat_lt 4294967295 link then None else Some link
 
 -- the key of the sentinel, above every key
 abbrev pub sentinel_key : ℕ

@@ -33,6 +33,14 @@ abbrev pub HasKey : ℕ → Pairs → Type 0
 HasKey k [] = ⊥
 HasKey k (p ∷ ps) = (k ≡ p.0) ⊎ HasKey k ps
 
+-- a key has at most eighteen digits
+abbrev pub IsKey : ℕ → Type 0
+IsKey k = k ≤ 999999999999999999
+
+-- a key with its value, each of at most eighteen digits
+abbrev pub IsPair : ℕ × ℕ → Type 0
+IsPair p = (p.0 ≤ 999999999999999999) × (p.1 ≤ 999999999999999999)
+
 -- every key and every value has at most eighteen digits
 abbrev pub AreSmall : Pairs → Type 0
 AreSmall [] = Unit {0}

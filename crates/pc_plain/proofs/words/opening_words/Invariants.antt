@@ -1,0 +1,10 @@
+use Rattle.std.proofs.Common.{◌≡◌, ◌*◌, ◌+◌, length}
+use Rattle.pc_plain.specs.PlainCells.{cells_in}
+use Rattle.pc_plain.proofs.Opening.{unused_below}
+use Rattle.pc_plain.proofs.words.opening_words.Given as goal
+
+abbrev pub invariant-loop-node : goal.invariant-loop-node
+invariant-loop-node l = record {
+  long : length l.words.items ≡ 8 * (l.slots + 2);
+  cells : cells_in l.words.items ≡ unused_below l.node;
+}

@@ -1,0 +1,11 @@
+use Rattle.std.proofs.Common.{◌≡◌, drop, length}
+use Rattle.pc_plain.specs.PlainCells.{cells_in}
+use Rattle.pc_plain.specs.PlainWriting.{with_adds, AddsReach}
+use Rattle.pc_plain.proofs.words.write_adds.Given as goal
+
+abbrev pub invariant-loop-add : goal.invariant-loop-add
+invariant-loop-add l = record {
+  reach : AddsReach (length l.words.items) (drop l.add-index l.adds);
+  long : length l.words.items ≡ length l.initial.words.items;
+  cells : with_adds l.slot (drop l.add-index l.adds) (cells_in l.words.items) ≡ with_adds l.slot l.adds (cells_in l.initial.words.items);
+}

@@ -1,0 +1,5 @@
+pub mod PlainCells
+pub mod PlainPairs
+pub mod PlainRuns
+pub mod PlainWriting
+pub mod RunEnds

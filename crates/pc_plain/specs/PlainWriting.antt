@@ -1,0 +1,45 @@
+-- How the words of nodes are written: a fresh node into a slot, and the words of an exchange.
+use Rattle.std.specs.Prelude.{◌≡◌, ℕ, ◌+◌, ◌*◌, ◌<◌, ◌≤◌, nat_le, ◌&&◌, List, [], ◌∷◌, ◌++◌, length, Option, IfSome, option_to_list}
+use Rattle.pc_model.specs.declared.cell.Field.{Field}
+use Rattle.pc_model.specs.declared.cell.Field.TheVariants.{Version as VersionField}
+use Rattle.pc_model.specs.Cells.{Cells, written, opening_fields}
+use Rattle.pc_model.specs.Counts.{count, one_if}
+use Rattle.pc_model.specs.Exchanges.{with_fresh}
+use Rattle.pc_plan.specs.declared.change.Add.{Add}
+use Rattle.pc_plan.specs.declared.change.Fresh.{Fresh}
+use Rattle.pc_plan.specs.Runs.{number_at, fresh_at, taken_by}
+use Rattle.pc_plain.specs.PlainCells.{cells_in, AreBelowLimits, kept, kept_cells}
+
+-- the cells with these words' new numbers, one after another
+abbrev pub with_adds : ℕ → List Add → Cells → Cells
+with_adds slot [] c = c
+with_adds slot (a ∷ adds) c = with_adds slot adds (written a.node a.field (kept a.field (number_at slot a.new)) c)
+
+-- a node's words stand in a list of this length
+abbrev pub ReachWords : ℕ → ℕ → Type 0
+ReachWords n len = 8 * n + 8 ≤ len
+
+abbrev pub AddsReach : ℕ → List Add → Type 0
+AddsReach len [] = Unit {0}
+AddsReach len (a ∷ adds) = ReachWords a.node len × AddsReach len adds
+
+-- the words fit, and each slot of the stack has its words
+pub record CanTakeSlot (words free : List ℕ) : Type 0 where
+  pub fit : AreBelowLimits (cells_in words)
+  pub within : (n : ℕ) → 0 < count n free → ReachWords n (length words)
+
+-- the slot was the stack's last where there is a fresh node, and the node is written there
+pub record TakesSlot (fresh : Option Fresh) (old_words new_words old_free new_free : List ℕ) (slot : ℕ) : Type 0 where
+  pub taken : old_free ≡ new_free ++ option_to_list (taken_by fresh slot)
+  pub cells : cells_in new_words ≡ kept_cells (with_fresh (fresh_at slot (cells_in old_words slot VersionField) fresh) (cells_in old_words))
+  pub long : length new_words ≡ length old_words
+  pub small : slot < 4294967296
+  pub parent : IfSome fresh (λ f. f.parent < 4294967296)
+
+-- the cells of every node from node 0 on are those that a tree opens with
+abbrev pub OpensCells : ℕ → Cells → Type 0
+OpensCells slots c = (n : ℕ) (f : Field) → n ≤ slots + 1 → c n f ≡ opening_fields n f
+
+-- each slot stands in the list once, and nothing else
+abbrev pub HasEachSlot : ℕ → List ℕ → Type 0
+HasEachSlot slots xs = (n : ℕ) → count n xs ≡ one_if (nat_le 2 n && nat_le n (slots + 1))

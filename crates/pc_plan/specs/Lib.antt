@@ -1,0 +1,4 @@
+pub mod Lawful
+pub mod Planned
+pub mod Runs
+pub mod Traces

@@ -1,0 +1,12 @@
+//! What a plan is: one call of a map as a machine that walks a tree. Told something, it asks something,
+//! and in the end it asks for an exchange or answers. What a plan promises speaks of what it was told
+//! alone, so the same plan serves cells that stand still and cells that others change.
+#![tactic(auto)]
+
+mod change;
+#[cfg(test)]
+mod change_tests;
+mod plan;
+
+pub use change::{Add, Change, Fresh, To};
+pub use plan::{Ask, Plan, Told};
