@@ -13,7 +13,7 @@ use Rattle.pc_model.specs.Counts.{one_if}
 use Rattle.pc_model.specs.Calls.{is_put, puts_in}
 use Rattle.pc_plain.specs.PlainCells.{PlainWords, cells_of, IsEmptyTree}
 use Rattle.pc_bst.specs.PlainTrees.{IsPlainTree}
-use Rattle.pathmap.specs.Running.{IsOneHistory, HasRoom, AnswersAs, HasRun}
+use Rattle.pathmap.specs.Running.{IsOneHistory, HasRoomFor, AnswersAs, HasRun}
 
 -- the entry of client 1 at a place, from 0
 abbrev pub entry_at : ℕ → Call → Reply → Entry
@@ -26,7 +26,7 @@ pub as_long : (slots : ℕ) (calls : List Call) (w : PlainWords) (history : List
 as_long slots calls w history h = sym (length-map history (λ (e : Entry). e.call)) ∙ ap length h.in_order
 
 -- there is room while fewer calls were run than there are slots
-pub room_left : (slots : ℕ) (calls : List Call) (w : PlainWords) (history : List Entry) → HasRun slots calls w history → puts_in calls < slots → HasRoom w
+pub room_left : (slots : ℕ) (calls : List Call) (w : PlainWords) (history : List Entry) → HasRun slots calls w history → puts_in calls < slots → HasRoomFor IsPlainTree w
 room_left slots calls w history h lt = let few : length (fold_of history) ≤ puts_in calls = h.few in let size : w.slots ≡ slots = h.size in (fold_of history, h.tree, omega arith)
 
 pub one_more : (slots : ℕ) (calls : List Call) (w w' : PlainWords) (history : List Entry) (call : Call) (r : Reply) (place : ℕ) → HasRun slots calls w history

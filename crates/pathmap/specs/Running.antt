@@ -5,6 +5,7 @@ use Rattle.pc_model.specs.declared.call.Reply.{Reply}
 use Rattle.pc_model.specs.declared.call.Entry.{Entry}
 use Rattle.pc_model.specs.Map.{Pairs, IsRising, reply_of, pairs_after}
 use Rattle.pc_model.specs.Calls.{puts_in}
+use Rattle.pc_model.specs.Cells.{Cells}
 use Rattle.pc_model.specs.Replay.{fold_of, IsRight}
 use Rattle.pc_model.specs.History.{IsHistoryOf, IsNumberedFrom, AllOfPass, calls_of}
 use Rattle.pc_plain.specs.PlainCells.{PlainWords, cells_of}
@@ -18,9 +19,9 @@ pub record IsOneHistory (script : List (List Call)) (history : List Entry) (pair
   pub left : pairs ≡ fold_of history
   pub rising : IsRising pairs
 
--- a plain tree with room for one pair more
-abbrev pub HasRoom : PlainWords → Type 0
-HasRoom w = (ps : Pairs) × IsPlainTree w.slots (cells_of w) ps × (length ps < w.slots)
+-- cells that are sound for a plan, with fewer pairs than slots
+abbrev pub HasRoomFor : (ℕ → Cells → Pairs → Type 0) → PlainWords → Type 0
+HasRoomFor sound w = (ps : Pairs) × sound w.slots (cells_of w) ps × (length ps < w.slots)
 
 -- the reply is the map's for the tree's pairs, and the tree has the map's next pairs
 abbrev pub AnswersAs : Call → PlainWords → PlainWords → Reply → Type 0

@@ -4,10 +4,14 @@ ghost use Rattle.pc_model.specs.Calls.{is_put, puts_in};
 ghost use Rattle.pc_model.specs.Counts.{one_if};
 ghost use Rattle.pc_text.specs.ScriptFacts.{IsCallInRange, IsPutOrGet};
 ghost use Rattle.pc_plain.specs.PlainCells.{IsEmptyTree};
-ghost use Rattle.pathmap.specs.Running.{IsOneHistory, HasRoom, AnswersAs, HasRun};
+ghost use Rattle.pc_plain.specs.PlainRuns.{IsRunOf, RunsRight};
+ghost use Rattle.pc_bst.specs.PlainTrees.{IsPlainTree};
+ghost use Rattle.pathmap.specs.Running.{IsOneHistory, HasRoomFor, AnswersAs, HasRun};
 
-use pc_bst::{BstGet, BstPut, PlainCells, pairs, run_plan};
+use pc_bst::{BstGet, BstPut};
 use pc_model::{Call, Entry, Memory, Reply};
+use pc_plain::{PlainCells, pairs, run_plan};
+use pc_plan::Plan;
 use std::alloc::Global;
 
 /// What a run leaves: its history, and the pairs of the map by rising key.
@@ -87,39 +91,28 @@ fn entry_of(place: usize, call: Call, reply: Reply) -> Entry
 
 // Runs a call on a tree that has a slot left.
 fn answer(cells: &mut PlainCells, call: Call) -> Reply
-    requires room { HasRoom cells.old }
+    requires room { HasRoomFor IsPlainTree cells.old }
     requires in_range { IsCallInRange call }
     requires plain { IsPutOrGet call }
     ensures right { AnswersAs call cells.old cells.new result }
     ensures size { cells.new.slots ≡ cells.old.slots }
 {
     match call {
-        Call::Put { key, value } => put(cells, key, value),
-        Call::Get { key } => get(cells, key),
+        Call::Put { key, value } => reply_by::<BstPut>(cells, (key, value)),
+        Call::Get { key } => reply_by::<BstGet>(cells, key),
         Call::Remove { .. } | Call::Ceil { .. } | Call::Floor { .. } => unreachable!(),
     }
 }
 
-fn put(cells: &mut PlainCells, key: u64, value: u64) -> Reply
-    requires room { HasRoom cells.old }
-    requires key { key ≤ 999999999999999999 }
-    requires value { value ≤ 999999999999999999 }
-    ensures right { AnswersAs (Call.Put key value) cells.old cells.new result }
+// Runs the plan of a call on cells that have a slot left.
+fn reply_by<P: Plan>(cells: &mut PlainCells, call: P::Call) -> Reply
+    requires call { P.can_call call }
+    requires room { HasRoomFor P.sound cells.old }
+    ensures run { IsRunOf P.start P.moves call cells.old cells.new result }
+    ensures right { RunsRight P.sound (P.call_of call) cells.old cells.new result }
     ensures size { cells.new.slots ≡ cells.old.slots }
 {
-    match run_plan::<BstPut>(cells, (key, value)) {
-        Ok(reply) => reply,
-        Err(_) => unreachable!(),
-    }
-}
-
-fn get(cells: &mut PlainCells, key: u64) -> Reply
-    requires room { HasRoom cells.old }
-    requires key { key ≤ 999999999999999999 }
-    ensures right { AnswersAs (Call.Get key) cells.old cells.new result }
-    ensures size { cells.new.slots ≡ cells.old.slots }
-{
-    match run_plan::<BstGet>(cells, key) {
+    match run_plan::<P>(cells, call) {
         Ok(reply) => reply,
         Err(_) => unreachable!(),
     }
