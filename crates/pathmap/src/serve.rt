@@ -133,8 +133,8 @@ fn print<K: Sink>(sink: &mut K, run: &Run) -> u8
     }
 }
 
-// Writes a fault's line, and gives its status whether or not it was written.
-fn refuse<K: Sink>(sink: &mut K, fault: &Fault) -> u8
+/// Writes a fault's line, and gives its status whether or not it was written.
+pub fn refuse<K: Sink>(sink: &mut K, fault: &Fault) -> u8
     ensures status { result ≡ status_of fault.now }
     ensures line { WritesFault (K.held sink.old) (K.held sink.new) (K.faults sink.old) (K.faults sink.new) fault.now }
     ensures never_falls { K.faults sink.old ≤ K.faults sink.new }
