@@ -4,7 +4,7 @@ ghost use Rattle.pathmap.specs.Reading.{TakesAtMost};
 ghost use Rattle.pathmap.specs.Serving.{PrintsOneHistory, PrintsFront, EndsInFault, IsCauseOf, HasRunAll, WritesFault, SpellsNone, IsRefusedInput, status_of, RunsBytes, IsBytesFault, unread_fault, PrintsOrStops};
 ghost use Rattle.pathmap.specs.Running.{IsOneHistory};
 ghost use Rattle.pc_edge.specs.Faults.{HasRisen};
-ghost use Rattle.pc_text.specs.ScriptFacts.{AreFew, AreInRange, ArePutsAndGets};
+ghost use Rattle.pc_text.specs.ScriptFacts.{AreFew, AreInRange};
 
 use crate::reading::{Unread, read_all};
 use crate::running::{Run, run_alone};
@@ -112,7 +112,6 @@ fn run_script(alloc: Global, script: &Script) -> Result<Run, Memory>
     requires one_list { length script.now.calls ≡ 1 }
     requires few { AreFew script.now.calls }
     requires in_range { AreInRange script.now.calls }
-    requires plain { ArePutsAndGets script.now.calls }
     ensures { IfOk result (λ run. IsOneHistory script.now.calls run.history.items run.pairs.items) }
 {
     let calls: &[Call] = &script.calls[0];
