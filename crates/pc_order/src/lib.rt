@@ -5,6 +5,8 @@
 mod ceil;
 mod floor;
 mod search;
+#[cfg(test)]
+mod tests;
 
 pub use ceil::CeilPlan;
 pub use floor::FloorPlan;
