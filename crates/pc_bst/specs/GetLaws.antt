@@ -30,13 +30,13 @@ module _ (slots : ℕ) (c : Cells) (ps : Pairs) (k : ℕ) (ready : IsReady IsPla
   tree = ready.is_sound
 
   pub get_course : Course IsPlainTree slots c ps (Some (Get k)) get_moves (get_moves (get_of k) Begin).1 (3 * slots + (1 + 3)) [] (get_moves (get_of k) Begin).0
-  get_course = walk_course IsPlainTree plain slots c ps (Some (Get k)) ready.few ready.is_sound get_moves (λ w. Walking w) get_walked (λ w t. refl) (λ w n. refl) (λ w n f. refl) k 1
-      (λ past above side n l r h e unseen_l unseen_r.
+  get_course = walk_course IsPlainTree plain slots c ps (Some (Get k)) ready.few ready.is_sound get_moves (λ b w. Walking w) (λ b from w s. get_walked w s) (λ b w t. refl) (λ b w w' n. refl) (λ b w w' n f. refl) k 1
+      (λ past above side n l r h link e unseen_l unseen_r.
       let node : IsTreeNode plain slots c above n = h.spelled.1 in
       let slot : IsSlot slots n = node.slot in
       let value : value_at k ps ≡ Some (c n ValueField) = value_at-hole plain slots c ps ready.is_sound.tree k above side n l r ready.is_sound.rising h e in
       ((omega arith, omega arith), (sym (ap value_or_nothing value), refl)))
-      (λ past above side h link.
+      (λ past b above side h link.
       let value : value_at k ps ≡ None = value_at-empty_hole plain slots c ps ready.is_sound.tree k above side h in
       (sym (ap value_or_nothing value), refl))
 

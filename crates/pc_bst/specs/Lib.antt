@@ -5,6 +5,16 @@ pub mod PlainTrees
 pub mod PutEnds
 pub mod PutLaws
 pub mod Puts
+pub mod RemoveEnds
+pub mod RemoveLawful
+pub mod RemoveLaws
+pub mod Removes
+pub mod ToldNodes
+pub mod UnlinkLawful
+pub mod Unlinks
+pub mod VersionLaws
+pub mod Versions
+pub mod WalkAbove
 pub mod WalkCourses
 pub mod WalkLawful
 pub mod Walks

@@ -14,14 +14,8 @@ use Rattle.pc_model.proofs.Holes.{Hole, Framed, other_link, hole_apart, refilled
 use Rattle.pc_model.proofs.HolePairs.{put-hole, put-empty_hole}
 use Rattle.pc_plan.specs.declared.change.Fresh.{Fresh}
 use Rattle.pc_plan.specs.Runs.{IsReady, fresh_fields}
+use Rattle.pc_bst.specs.VersionLaws.{two_more, two_more-parity}
 use Rattle.pc_bst.specs.PlainTrees.{IsPlainTree}
-
--- a version two higher, which stays below the end of numbers where it is small
-abbrev pub two_more : ℕ → ℕ
-two_more v = min (v + 2) (2 ^ 64 - 1)
-
-pub two_more-parity : (v : ℕ) → v < 2 ^ 60 → two_more v % 2 ≡ v % 2
-two_more-parity v small = let e : two_more v ≡ v + 2 = omega arith in ap (λ (x : ℕ). x % 2) e ∙ (let f : (v + 2) % 2 ≡ v % 2 = omega arith in f)
 
 -- what a link's number is not
 pub record IsLinkField (side : Field) : Type 0 where

@@ -27,7 +27,8 @@ use Rattle.pc_plan.proofs.Learning.{kept_along, is_some-seen, number_seen-here}
 use Rattle.pc_bst.specs.WalkLawful.{StepStands, Waits, walk_stands, waits_lawful}
 use Rattle.pc_plan.specs.Runs.{Runs, IsReady, FitsWord}
 use Rattle.pc_bst.specs.Walks.{walk_step}
-use Rattle.pc_bst.specs.Puts.{put_call, put_of, put_walked, put_moves, raised, value_changed, leaf_added}
+use Rattle.pc_bst.specs.Puts.{put_call, put_of, put_walked, put_moves, value_changed, leaf_added}
+use Rattle.pc_bst.specs.VersionLaws.{raise_told}
 use Rattle.pc_bst.specs.PlainTrees.{IsPlainTree}
 use Rattle.pc_plan.proofs.Courses.{Course, IsRightEnd, course_goes, course_ends}
 use Rattle.pc_bst.specs.WalkCourses.{walk_course}
@@ -74,13 +75,13 @@ module _ (slots : ℕ) (c : Cells) (ps : Pairs) (k value : ℕ) (ready : IsReady
       }
 
   pub put_course : Course IsPlainTree slots c ps (Some (Put k value)) put_moves (put_moves (put_of (k, value)) Begin).1 (3 * slots + (1 + 3)) [] (put_moves (put_of (k, value)) Begin).0
-  put_course = walk_course IsPlainTree plain slots c ps (Some (Put k value)) ready.few ready.is_sound put_moves (λ w. Walking w value) (put_walked value) (λ w t. refl) (λ w n. refl) (λ w n f. refl) k 1
-      (λ past above side n l r h e unseen_l unseen_r.
+  put_course = walk_course IsPlainTree plain slots c ps (Some (Put k value)) ready.few ready.is_sound put_moves (λ b w. Walking w value) (λ b from w s. put_walked value w s) (λ b w t. refl) (λ b w w' n. refl) (λ b w w' n f. refl) k 1
+      (λ past above side n l r h link e unseen_l unseen_r.
       let node : IsTreeNode plain slots c above n = h.spelled.1 in
       let slot : IsSlot slots n = node.slot in
       let old : value_at k ps ≡ Some (c n ValueField) = value_at-hole plain slots c ps ready.is_sound.tree k above side n l r ready.is_sound.rising h e in
       ((omega arith, omega arith), (sym (ap was_or_new old), λ s takes. value_end _ above side n l r s h e)))
-      (λ past above side h link.
+      (λ past b above side h link.
       let old : value_at k ps ≡ None = value_at-empty_hole plain slots c ps ready.is_sound.tree k above side h in
       (sym (ap was_or_new old), λ s takes. leaf_end past above side s h link takes))
 
@@ -101,10 +102,6 @@ PutStands past Ended a = IsLawfulAsk past a
 
 abbrev PutKeeps : List Event → PutPhase × Ask → Type 0
 PutKeeps past s = PutStands past s.0 s.1
-
--- a version that was told is raised by two
-raise_told : (past : List Event) (mark : Option ℕ) (n version : ℕ) → version_seen n past ≡ Some version → version < 2 ^ 62 → IsToldWord past mark (raised n version)
-raise_told past mark n version seen small = let e : min (version + 2) (2 ^ 64 - 1) ≡ version + 2 = omega arith in inl (refl, seen, inl (ap ToNumber e))
 
 leaf_lawful : (past : List Event) (n version : ℕ) (side : Field) (link key value : ℕ) → version_seen n past ≡ Some version → version < 2 ^ 62 → IsSide side → number_seen n side past ≡ Some link
     → IsLawfulChange past (leaf_added n version side link key value)

@@ -1,12 +1,11 @@
 -- The plan of a put, as a machine.
-use Rattle.std.specs.Prelude.{ℕ, ◌+◌, ◌-◌, ◌^◌, ◌≤◌, min, [], ◌∷◌, Option, Some, None}
+use Rattle.std.specs.Prelude.{ℕ, [], ◌∷◌, Option, Some, None}
 use Rattle.pc_model.specs.declared.cell.Field.{Field}
-use Rattle.pc_model.specs.declared.cell.Field.TheVariants.{Version as VersionField, Value as ValueField}
+use Rattle.pc_model.specs.declared.cell.Field.TheVariants.{Value as ValueField}
 use Rattle.pc_model.specs.declared.call.Call.{Call}
 use Rattle.pc_model.specs.declared.call.Call.TheVariants.{Put}
 use Rattle.pc_model.specs.declared.call.Reply.TheVariants.{New, Was, None as Nothing}
 use Rattle.pc_plan.specs.declared.change.To.TheVariants.{Number as ToNumber, Fresh as ToFresh}
-use Rattle.pc_plan.specs.declared.change.Add.{Add}
 use Rattle.pc_plan.specs.declared.plan.Ask.{Ask}
 use Rattle.pc_plan.specs.declared.plan.Ask.TheVariants.{Visit as AskVisit, Read as AskRead, Change, Answer}
 use Rattle.pc_plan.specs.declared.plan.Told.{Told}
@@ -17,6 +16,7 @@ use Rattle.pc_bst.specs.declared.walk.Step.TheVariants.{Visit, Read, Found, Miss
 use Rattle.pc_bst.specs.declared.put.PutPhase.{PutPhase}
 use Rattle.pc_bst.specs.declared.put.PutPhase.TheVariants.{Walking, Reading, Ended}
 use Rattle.pc_plan.specs.Planned.{Planned}
+use Rattle.pc_bst.specs.Versions.{raised}
 use Rattle.pc_bst.specs.Walks.{walk_of, walk_step}
 
 abbrev pub put_call : ℕ × ℕ → Option Call
@@ -24,10 +24,6 @@ put_call p = Some (Put p.0 p.1)
 
 abbrev pub put_of : ℕ × ℕ → PutPhase
 put_of p = Walking (walk_of p.0) p.1
-
--- a version is raised by two
-abbrev pub raised : ℕ → ℕ → Add
-raised n version = record { node = n; field = VersionField; old = version; new = ToNumber (min (version + 2) (2 ^ 64 - 1)) }
 
 -- the value of a node is changed
 abbrev pub value_changed : ℕ → ℕ → ℕ → ℕ → Planned

@@ -53,85 +53,94 @@ abbrev pub IsUnseen : Tree → List Event → Type 0
 IsUnseen t past = (m : ℕ) → IsIn m t → version_seen m past ≡ None
 
 module _ (sound : ℕ → Cells → Pairs → Type 0) (kind : Kind) (slots : ℕ) (c : Cells) (ps : Pairs) (call : Option Call) (few : slots ≤ 61000) (tree : IsSearchTree kind slots c ps) where
-  module _ {P : Type 0} (moves : P → Told → P × Ask) (at_walk : Walk → P) (walked : Walk → Step → P × Ask)
-      (goes : (w : Walk) (t : Told) → moves (at_walk w) t ≡ walked (walk_step w t).0 (walk_step w t).1)
-      (goes_visit : (w : Walk) (n : ℕ) → walked w (Visit n) ≡ (at_walk w, AskVisit n))
-      (goes_read : (w : Walk) (n : ℕ) (f : Field) → walked w (Read n f) ≡ (at_walk w, AskRead n f))
+  -- At a walk the plan's state may keep the walk as it was when it left the node above. What the plan
+  -- comes to by a step depends on that one and on the walk before and after the step.
+  module _ {P : Type 0} (moves : P → Told → P × Ask) (at_walk : Walk → Walk → P) (walked : Walk → Walk → Walk → Step → P × Ask)
+      (goes : (b w : Walk) (t : Told) → moves (at_walk b w) t ≡ walked b w (walk_step w t).0 (walk_step w t).1)
+      (goes_visit : (b w w' : Walk) (n : ℕ) → walked b w w' (Visit n) ≡ (at_walk w w', AskVisit n))
+      (goes_read : (b w w' : Walk) (n : ℕ) (f : Field) → walked b w w' (Read n f) ≡ (at_walk b w', AskRead n f))
       (k more : ℕ) where
     -- the course goes on from what the plan comes to
     abbrev pub Goes : ℕ → List Event → P × Ask → Type 0
     Goes turns past s = Course sound slots c ps call moves s.1 turns past s.0
 
+    -- a walk that waits for a link of a node
+    abbrev pub at_link : ℕ → Field → Walk
+    at_link n side = walk_at k n (c n VersionField) (ALink side)
+
     -- the plan's course once the walk has found the key, or the empty link where it belongs
     abbrev pub GoesFromFound : Type 0
-    GoesFromFound = (past : List Event) (above : ℕ) (side : Field) (n : ℕ) (l r : Tree) → Hole kind slots c ps tree.tree k above side (Fork n l r) → c n KeyField ≡ k
-        → IsUnseen l past → IsUnseen r past → Goes more past (walked (walk_at k n (c n VersionField) AKey) Found)
+    GoesFromFound = (past : List Event) (above : ℕ) (side : Field) (n : ℕ) (l r : Tree) → Hole kind slots c ps tree.tree k above side (Fork n l r) → (side ≡ Left) ⊎ (side ≡ Right) → c n KeyField ≡ k
+        → IsUnseen l past → IsUnseen r past → Goes more past (walked (at_link above side) (walk_at k n (c n VersionField) AKey) (walk_at k n (c n VersionField) AKey) Found)
 
     abbrev pub GoesFromMissing : Type 0
-    GoesFromMissing = (past : List Event) (above : ℕ) (side : Field) → Hole kind slots c ps tree.tree k above side Empty → (side ≡ Left) ⊎ (side ≡ Right)
-        → Goes more past (walked (walk_at k above (c above VersionField) (ALink side)) (Missing side 0))
+    GoesFromMissing = (past : List Event) (b : Walk) (above : ℕ) (side : Field) → Hole kind slots c ps tree.tree k above side Empty → (side ≡ Left) ⊎ (side ≡ Right)
+        → Goes more past (walked b (at_link above side) (at_link above side) (Missing side 0))
 
     module _ (at_found : GoesFromFound) (at_missing : GoesFromMissing) where
-      moved : (w w' : Walk) (t : Told) (s : Step) → walk_step w t ≡ (w', s) → moves (at_walk w) t ≡ walked w' s
-      moved w w' t s e = goes w t ∙ ap (λ (x : Walk × Step). walked x.0 x.1) e
+      moved : (b w w' : Walk) (t : Told) (s : Step) → walk_step w t ≡ (w', s) → moves (at_walk b w) t ≡ walked b w w' s
+      moved b w w' t s e = goes b w t ∙ ap (λ (x : Walk × Step). walked b w x.0 x.1) e
 
       -- from the link below a node on
-      walk_on : (t : Tree) (above : ℕ) (side : Field) (turns : ℕ) (past : List Event) → Hole kind slots c ps tree.tree k above side t → (side ≡ Left) ⊎ (side ≡ Right)
-          → IsUnseen t past → 3 * size_of t + suc more ≤ turns → Goes turns past (at_walk (walk_at k above (c above VersionField) (ALink side)), AskRead above side)
-      walk_on Empty above side zero past h link unseen enough = absurd (omega arith)
-      walk_on Empty above side (suc turns) past h link unseen enough =
-          let w : Walk = walk_at k above (c above VersionField) (ALink side) in
-          let next : moves (at_walk w) (Number (c above side)) ≡ walked w (Missing side 0) = moved w w (Number (c above side)) (Missing side 0) (ap (λ (x : ℕ). following w side x (node_at x)) h.spelled) in
-          let go : Goes more (found above side (c above side) ∷ past) (walked w (Missing side 0)) = at_missing (found above side (c above side) ∷ past) above side h link in
-          let all : Goes turns (found above side (c above side) ∷ past) (walked w (Missing side 0)) = more_turns sound slots c ps call moves more turns (walked w (Missing side 0)).1 (found above side (c above side) ∷ past) (walked w (Missing side 0)).0 (omega arith) go in
+      walk_on : (t : Tree) (b : Walk) (above : ℕ) (side : Field) (turns : ℕ) (past : List Event) → Hole kind slots c ps tree.tree k above side t → (side ≡ Left) ⊎ (side ≡ Right)
+          → IsUnseen t past → 3 * size_of t + suc more ≤ turns → Goes turns past (at_walk b (at_link above side), AskRead above side)
+      walk_on Empty b above side zero past h link unseen enough = absurd (omega arith)
+      walk_on Empty b above side (suc turns) past h link unseen enough =
+          let w : Walk = at_link above side in
+          let to : P × Ask = walked b w w (Missing side 0) in
+          let next : moves (at_walk b w) (Number (c above side)) ≡ to = moved b w w (Number (c above side)) (Missing side 0) (ap (λ (x : ℕ). following w side x (node_at x)) h.spelled) in
+          let go : Goes more (found above side (c above side) ∷ past) to = at_missing (found above side (c above side) ∷ past) b above side h link in
+          let all : Goes turns (found above side (c above side) ∷ past) to = more_turns sound slots c ps call moves more turns to.1 (found above side (c above side) ∷ past) to.0 (omega arith) go in
           (h.node, subst (Goes turns (found above side (c above side) ∷ past)) (sym next) all)
-      walk_on (Fork n l r) above side zero past h link unseen enough = absurd (omega arith)
-      walk_on (Fork n l r) above side (suc zero) past h link unseen enough = absurd (omega arith)
-      walk_on (Fork n l r) above side (suc (suc zero)) past h link unseen enough = absurd (omega arith)
-      walk_on (Fork n l r) above side (suc (suc (suc turns))) past h link unseen enough =
+      walk_on (Fork n l r) b above side zero past h link unseen enough = absurd (omega arith)
+      walk_on (Fork n l r) b above side (suc zero) past h link unseen enough = absurd (omega arith)
+      walk_on (Fork n l r) b above side (suc (suc zero)) past h link unseen enough = absurd (omega arith)
+      walk_on (Fork n l r) b above side (suc (suc (suc turns))) past h link unseen enough =
           let node : IsTreeNode kind slots c above n = h.spelled.1 in
           let slot : IsSlot slots n = node.slot in
           let a : Apart c n l r = hole_apart kind slots c ps tree.tree k above side n l r tree.rising h in
           let v : ℕ = c above VersionField in
-          let w0 : Walk = walk_at k above v (ALink side) in
+          let w0 : Walk = at_link above side in
           let w1 : Walk = walk_at k n v AVersion in
           let w2 : Walk = walk_at k n (c n VersionField) AKey in
           let past1 : List Event = found above side (c above side) ∷ past in
           let past2 : List Event = visited n (c n VersionField) ∷ past1 in
           let past3 : List Event = found n KeyField (c n KeyField) ∷ past2 in
           let named : node_at (c above side) ≡ Some n = ap node_at h.spelled.0 ∙ node_at-node n (omega arith) (omega arith) in
-          let step1 : moves (at_walk w0) (Number (c above side)) ≡ (at_walk w1, AskVisit n) = moved w0 w1 (Number (c above side)) (Visit n) (ap (following w0 side (c above side)) named) ∙ goes_visit w1 n in
-          let step2 : moves (at_walk w1) (Version (c n VersionField)) ≡ (at_walk w2, AskRead n KeyField) = moved w1 w2 (Version (c n VersionField)) (Read n KeyField) (arriving-node k n v (c n VersionField) AVersion slot.0) ∙ goes_read w2 n KeyField in
+          let step1 : moves (at_walk b w0) (Number (c above side)) ≡ (at_walk w0 w1, AskVisit n) = moved b w0 w1 (Number (c above side)) (Visit n) (ap (following w0 side (c above side)) named) ∙ goes_visit b w0 w1 n in
+          let step2 : moves (at_walk w0 w1) (Version (c n VersionField)) ≡ (at_walk w0 w2, AskRead n KeyField) = moved w0 w1 w2 (Version (c n VersionField)) (Read n KeyField) (arriving-node k n v (c n VersionField) AVersion slot.0) ∙ goes_read w0 w1 w2 n KeyField in
           let unseen_l : IsUnseen l past3 = λ m i. version_seen-else m n (c n VersionField) past1 (λ e. a.not_left (subst (λ (x : ℕ). IsIn x l) (sym e) i)) ∙ unseen m (inr (inl i)) in
           let unseen_r : IsUnseen r past3 = λ m i. version_seen-else m n (c n VersionField) past1 (λ e. a.not_right (subst (λ (x : ℕ). IsIn x r) (sym e) i)) ∙ unseen m (inr (inr i)) in
-          let go3 : Goes turns past3 (moves (at_walk w2) (Number (c n KeyField))) =
-          ⊎_elim (λ e. let next : moves (at_walk w2) (Number (c n KeyField)) ≡ walked w2 Found = moved w2 w2 (Number (c n KeyField)) Found (comparing-found k n (c n VersionField) (c n KeyField) AKey e) in
-          let go : Goes more past3 (walked w2 Found) = at_found past3 above side n l r h (sym e) unseen_l unseen_r in
-          let all : Goes turns past3 (walked w2 Found) = more_turns sound slots c ps call moves more turns (walked w2 Found).1 past3 (walked w2 Found).0 (omega arith) go in
+          let go3 : Goes turns past3 (moves (at_walk w0 w2) (Number (c n KeyField))) =
+          ⊎_elim (λ e. let to : P × Ask = walked w0 w2 w2 Found in
+          let next : moves (at_walk w0 w2) (Number (c n KeyField)) ≡ to = moved w0 w2 w2 (Number (c n KeyField)) Found (comparing-found k n (c n VersionField) (c n KeyField) AKey e) in
+          let go : Goes more past3 to = at_found past3 above side n l r h link (sym e) unseen_l unseen_r in
+          let all : Goes turns past3 to = more_turns sound slots c ps call moves more turns to.1 past3 to.0 (omega arith) go in
           subst (Goes turns past3) (sym next) all)
           (λ apart. ⊎_elim
-          (λ lt. let w3 : Walk = walk_at k n (c n VersionField) (ALink Left) in
-          let next : moves (at_walk w2) (Number (c n KeyField)) ≡ (at_walk w3, AskRead n Left) = moved w2 w3 (Number (c n KeyField)) (Read n Left) (comparing-less k n (c n VersionField) (c n KeyField) AKey lt) ∙ goes_read w3 n Left in
-          subst (Goes turns past3) (sym next) (walk_on l n Left turns past3 (left_hole kind slots c ps tree.tree k above side n l r tree.rising lt h) (inl refl) unseen_l (omega arith)))
-          (λ gt. let w3 : Walk = walk_at k n (c n VersionField) (ALink Right) in
-          let next : moves (at_walk w2) (Number (c n KeyField)) ≡ (at_walk w3, AskRead n Right) = moved w2 w3 (Number (c n KeyField)) (Read n Right) (comparing-more k n (c n VersionField) (c n KeyField) AKey gt) ∙ goes_read w3 n Right in
-          subst (Goes turns past3) (sym next) (walk_on r n Right turns past3 (right_hole kind slots c ps tree.tree k above side n l r tree.rising gt h) (inr refl) unseen_r (omega arith)))
+          (λ lt. let w3 : Walk = at_link n Left in
+          let next : moves (at_walk w0 w2) (Number (c n KeyField)) ≡ (at_walk w0 w3, AskRead n Left) = moved w0 w2 w3 (Number (c n KeyField)) (Read n Left) (comparing-less k n (c n VersionField) (c n KeyField) AKey lt) ∙ goes_read w0 w2 w3 n Left in
+          subst (Goes turns past3) (sym next) (walk_on l w0 n Left turns past3 (left_hole kind slots c ps tree.tree k above side n l r tree.rising lt h) (inl refl) unseen_l (omega arith)))
+          (λ gt. let w3 : Walk = at_link n Right in
+          let next : moves (at_walk w0 w2) (Number (c n KeyField)) ≡ (at_walk w0 w3, AskRead n Right) = moved w0 w2 w3 (Number (c n KeyField)) (Read n Right) (comparing-more k n (c n VersionField) (c n KeyField) AKey gt) ∙ goes_read w0 w2 w3 n Right in
+          subst (Goes turns past3) (sym next) (walk_on r w0 n Right turns past3 (right_hole kind slots c ps tree.tree k above side n l r tree.rising gt h) (inr refl) unseen_r (omega arith)))
           apart) (cases_order k (c n KeyField)) in
-          let go2 : Goes (suc turns) past2 (moves (at_walk w1) (Version (c n VersionField))) = subst (Goes (suc turns) past2) (sym step2) ((omega arith, omega arith), go3) in
-          let go1 : Goes (suc (suc turns)) past1 (moves (at_walk w0) (Number (c above side))) = subst (Goes (suc (suc turns)) past1) (sym step1) (((omega arith, omega arith), node.unmarked, unseen n (inl refl)), go2) in
+          let go2 : Goes (suc turns) past2 (moves (at_walk w0 w1) (Version (c n VersionField))) = subst (Goes (suc turns) past2) (sym step2) ((omega arith, omega arith), go3) in
+          let go1 : Goes (suc (suc turns)) past1 (moves (at_walk b w0) (Number (c above side))) = subst (Goes (suc (suc turns)) past1) (sym step1) (((omega arith, omega arith), node.unmarked, unseen n (inl refl)), go2) in
           (h.node, go1)
 
       -- the whole walk, from the beginning on
-      pub walk_course : Goes (3 * slots + (more + 3)) [] (moves (at_walk (walk_of k)) Begin)
+      pub walk_course : Goes (3 * slots + (more + 3)) [] (moves (at_walk (walk_of k) (walk_of k)) Begin)
       walk_course =
           let size : size_of tree.tree ≤ slots = search_tree_size kind slots c ps tree in
+          let b : Walk = walk_of k in
           let w0 : Walk = walk_at k 1 0 AVersion in
-          let w1 : Walk = walk_at k 1 (c 1 VersionField) (ALink Left) in
+          let w1 : Walk = at_link 1 Left in
           let past1 : List Event = visited 1 (c 1 VersionField) ∷ [] in
-          let step0 : moves (at_walk (walk_of k)) Begin ≡ (at_walk w0, AskVisit 1) = moved (walk_of k) w0 Begin (Visit 1) refl ∙ goes_visit w0 1 in
-          let step1 : moves (at_walk w0) (Version (c 1 VersionField)) ≡ (at_walk w1, AskRead 1 Left) = moved w0 w1 (Version (c 1 VersionField)) (Read 1 Left) refl ∙ goes_read w1 1 Left in
+          let step0 : moves (at_walk b b) Begin ≡ (at_walk b w0, AskVisit 1) = moved b b w0 Begin (Visit 1) refl ∙ goes_visit b b w0 1 in
+          let step1 : moves (at_walk b w0) (Version (c 1 VersionField)) ≡ (at_walk b w1, AskRead 1 Left) = moved b w0 w1 (Version (c 1 VersionField)) (Read 1 Left) refl ∙ goes_read b w0 w1 1 Left in
           let unseen : IsUnseen tree.tree past1 = λ m i. let slot : IsSlot slots m = slot_in kind slots c tree.tree 1 (c 1 Left) m tree.spelled i in version_seen-else m 1 (c 1 VersionField) [] (λ e. absurd (omega arith)) in
           let turns : ℕ = 3 * size_of tree.tree + suc more in
-          let go1 : Goes turns past1 (moves (at_walk w0) (Version (c 1 VersionField))) = subst (Goes turns past1) (sym step1) (walk_on tree.tree 1 Left turns past1 (root_hole kind slots c ps tree k) (inl refl) unseen (omega arith)) in
-          let go0 : Goes (suc turns) [] (moves (at_walk (walk_of k)) Begin) = subst (Goes (suc turns) []) (sym step0) (((omega arith, omega arith), tree.unmarked, refl), go1) in
-          more_turns sound slots c ps call moves (suc turns) (3 * slots + (more + 3)) (moves (at_walk (walk_of k)) Begin).1 [] (moves (at_walk (walk_of k)) Begin).0 (omega arith) go0
+          let go1 : Goes turns past1 (moves (at_walk b w0) (Version (c 1 VersionField))) = subst (Goes turns past1) (sym step1) (walk_on tree.tree b 1 Left turns past1 (root_hole kind slots c ps tree k) (inl refl) unseen (omega arith)) in
+          let go0 : Goes (suc turns) [] (moves (at_walk b b) Begin) = subst (Goes (suc turns) []) (sym step0) (((omega arith, omega arith), tree.unmarked, refl), go1) in
+          more_turns sound slots c ps call moves (suc turns) (3 * slots + (more + 3)) (moves (at_walk b b) Begin).1 [] (moves (at_walk b b) Begin).0 (omega arith) go0

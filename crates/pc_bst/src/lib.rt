@@ -7,7 +7,11 @@ mod get;
 #[cfg(test)]
 mod plan_tests;
 mod put;
+mod remove;
+mod unlink;
+mod version;
 mod walk;
 
 pub use get::BstGet;
 pub use put::BstPut;
+pub use remove::BstRemove;

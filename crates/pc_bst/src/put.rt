@@ -1,8 +1,9 @@
 //! The plan of a put: the walk, and where it finds the key, a change of the value there, else a
 //! fresh node at the link where the walk ended.
 ghost use Rattle.std.specs.Prelude.{◌≡◌};
-ghost use Rattle.pc_bst.specs.Puts.{raised, value_changed, leaf_added};
+ghost use Rattle.pc_bst.specs.Puts.{value_changed, leaf_added};
 
+use crate::version::raise;
 use crate::walk::{Step, Walk};
 use pc_model::{Call, Field, Reply, Settle};
 use pc_plan::{Add, Ask, Change, Fresh, Plan, To, Told};
@@ -92,18 +93,6 @@ impl Plan for BstPut {
 
     fn settles(_call: (u64, u64), _reply: Reply) -> Settle {
         Settle::Nothing
-    }
-}
-
-/// The version of a changed node goes up by two.
-fn raise(node: u32, version: u64) -> Add
-    ensures { result ≡ raised node version }
-{
-    Add {
-        node,
-        field: Field::Version,
-        old: version,
-        new: To::Number(version.saturating_add(2)),
     }
 }
 

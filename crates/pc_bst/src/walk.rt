@@ -48,7 +48,7 @@ pub enum Step {
 }
 
 /// The node that a link names, if it names one.
-fn node_of(link: u64) -> Option<u32>
+pub fn node_of(link: u64) -> Option<u32>
     ensures { result ≡ node_at link }
 {
     if link == 0 || link > 0xffff_ffff {

@@ -1,6 +1,6 @@
 -- What a plan has learned after one thing more, and how its law whatever it is told is proved: a fact
 -- about its state, its ask and what it learned that each step keeps holds along every trace.
-use Rattle.std.proofs.Common.{◌≡◌, ◌≢◌, ℕ, ◌==◌, ◌⊎◌, inl, inr, ⊎_elim, if◌then◌else◌, List, [], ◌∷◌, Some, refl, ap, ◌∙◌}
+use Rattle.std.proofs.Common.{◌≡◌, ◌≢◌, ℕ, ◌==◌, ◌⊎◌, inl, inr, ⊎_elim, if◌then◌else◌, List, [], ◌∷◌, Some, None, refl, ap, ◌∙◌}
 use Rattle.std.specs.Prelude.{IsSome, is_some}
 use Rattle.std.proofs.lemmas.Bool.{eq-eqb, ne_eqb, cond-true, cond-false}
 use Rattle.pc_model.specs.declared.cell.Field.{Field}
@@ -27,6 +27,16 @@ version_seen-else n m v past ne = cond-false (m == n) (Some v) (version_seen n p
 pub number_seen-here : (n : ℕ) (f : Field) (x : ℕ) (past : List Event) → number_seen n f (found n f x ∷ past) ≡ Some x
 number_seen-here n f x past = cond-true (n == n) (if field_number f == field_number f then Some x else number_seen n f past) (number_seen n f past) (eq-eqb n n refl)
     ∙ cond-true (field_number f == field_number f) (Some x) (number_seen n f past) (eq-eqb (field_number f) (field_number f) refl)
+
+pub number_seen-visit : (n : ℕ) (f : Field) (m v : ℕ) (past : List Event) → m ≢ n → number_seen n f (visited m v ∷ past) ≡ number_seen n f past
+number_seen-visit n f m v past ne = cond-false (m == n) None (number_seen n f past) (ne_eqb m n ne)
+
+pub number_seen-else : (n : ℕ) (f : Field) (m : ℕ) (g : Field) (x : ℕ) (past : List Event) → m ≢ n → number_seen n f (found m g x ∷ past) ≡ number_seen n f past
+number_seen-else n f m g x past ne = cond-false (m == n) (if field_number g == field_number f then Some x else number_seen n f past) (number_seen n f past) (ne_eqb m n ne)
+
+pub number_seen-other : (n : ℕ) (f g : Field) (x : ℕ) (past : List Event) → field_number g ≢ field_number f → number_seen n f (found n g x ∷ past) ≡ number_seen n f past
+number_seen-other n f g x past ne = cond-true (n == n) (if field_number g == field_number f then Some x else number_seen n f past) (number_seen n f past) (eq-eqb n n refl)
+    ∙ cond-false (field_number g == field_number f) (Some x) (number_seen n f past) (ne_eqb (field_number g) (field_number f) ne)
 
 pub is_some-seen : (n v : ℕ) (past : List Event) → version_seen n past ≡ Some v → IsSome (version_seen n past)
 is_some-seen n v past e = ap is_some e
