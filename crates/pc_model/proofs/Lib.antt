@@ -4,6 +4,7 @@ pub mod Histories
 pub mod HolePairs
 pub mod Holes
 pub mod MapLawProofs
+pub mod OrderedMaps
 pub mod Replaying
 pub mod Sizes
 pub mod SortedLists

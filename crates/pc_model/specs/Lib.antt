@@ -3,6 +3,7 @@ pub mod Cells
 pub mod Counts
 pub mod EntryLaws
 pub mod Exchanges
+pub mod FirstWrong
 pub mod History
 pub mod Map
 pub mod MapLaws

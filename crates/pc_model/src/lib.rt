@@ -6,6 +6,9 @@
 mod call;
 mod cell;
 mod laws;
+mod first_wrong;
+#[cfg(test)]
+mod replay_tests;
 #[cfg(test)]
 mod tests;
 
@@ -15,3 +18,4 @@ pub use laws::{
     ceil_and_floor_are_nearest, history_of_one_client_is_its_calls, replay_goes_in_parts,
     sorted_map_is_finite_map,
 };
+pub use first_wrong::{Wrong, replay};
