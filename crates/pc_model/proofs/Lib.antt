@@ -1,4 +1,5 @@
 pub mod Counting
+pub mod DebtLists
 pub mod Framing
 pub mod Histories
 pub mod HolePairs

@@ -1,6 +1,8 @@
 pub mod Calls
 pub mod Cells
 pub mod Counts
+pub mod DebtLaws
+pub mod Debts
 pub mod EntryLaws
 pub mod Exchanges
 pub mod FirstWrong

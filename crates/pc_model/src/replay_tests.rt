@@ -43,18 +43,38 @@ fn a_get_finds_what_was_put(rt: HostRuntime) -> Result<(), Fail> {
 // Calls on the map with 50 at 5 and 90 at 9, each with its right reply and a wrong one.
 const ROWS: [(Call, Reply, Reply); 14] = [
     (Call::Put { key: 5, value: 51 }, Reply::Was(50), Reply::New),
-    (Call::Put { key: 9, value: 90 }, Reply::Was(90), Reply::Was(50)),
+    (
+        Call::Put { key: 9, value: 90 },
+        Reply::Was(90),
+        Reply::Was(50),
+    ),
     (Call::Put { key: 7, value: 70 }, Reply::New, Reply::Was(70)),
     (Call::Get { key: 5 }, Reply::Value(50), Reply::None),
     (Call::Get { key: 9 }, Reply::Value(90), Reply::Was(90)),
     (Call::Get { key: 7 }, Reply::None, Reply::New),
     (Call::Remove { key: 5 }, Reply::Value(50), Reply::None),
     (Call::Remove { key: 7 }, Reply::None, Reply::Value(50)),
-    (Call::Ceil { key: 5 }, Reply::Pair(5, 50), Reply::Pair(9, 90)),
-    (Call::Ceil { key: 6 }, Reply::Pair(9, 90), Reply::Pair(5, 50)),
+    (
+        Call::Ceil { key: 5 },
+        Reply::Pair(5, 50),
+        Reply::Pair(9, 90),
+    ),
+    (
+        Call::Ceil { key: 6 },
+        Reply::Pair(9, 90),
+        Reply::Pair(5, 50),
+    ),
     (Call::Ceil { key: 10 }, Reply::None, Reply::Pair(9, 90)),
-    (Call::Floor { key: 9 }, Reply::Pair(9, 90), Reply::Pair(5, 50)),
-    (Call::Floor { key: 8 }, Reply::Pair(5, 50), Reply::Pair(5, 90)),
+    (
+        Call::Floor { key: 9 },
+        Reply::Pair(9, 90),
+        Reply::Pair(5, 50),
+    ),
+    (
+        Call::Floor { key: 8 },
+        Reply::Pair(5, 50),
+        Reply::Pair(5, 90),
+    ),
     (Call::Floor { key: 4 }, Reply::None, Reply::Pair(5, 50)),
 ];
 
