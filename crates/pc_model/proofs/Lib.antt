@@ -1,10 +1,12 @@
 pub mod Counting
+pub mod DebtLists
 pub mod Framing
 pub mod Histories
 pub mod HolePairs
 pub mod Holes
 pub mod Links
 pub mod MapLawProofs
+pub mod OrderedMaps
 pub mod Removal
 pub mod Replaying
 pub mod Sizes

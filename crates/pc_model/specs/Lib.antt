@@ -1,8 +1,11 @@
 pub mod Calls
 pub mod Cells
 pub mod Counts
+pub mod DebtLaws
+pub mod Debts
 pub mod EntryLaws
 pub mod Exchanges
+pub mod FirstWrong
 pub mod History
 pub mod Map
 pub mod MapLaws

@@ -1,4 +1,5 @@
 //! The laws of the definitions, each on a function with no code.
+ghost use Rattle.pc_model.specs.DebtLaws.{NoDebtIsForgotten};
 ghost use Rattle.pc_model.specs.EntryLaws.{GoesInParts, IsItsCallsInOrder};
 ghost use Rattle.pc_model.specs.MapLaws.{FindsNearest, IsFiniteMap};
 
@@ -23,4 +24,10 @@ pub fn replay_goes_in_parts()
 /// their order.
 pub fn history_of_one_client_is_its_calls()
     ensures { IsItsCallsInOrder }
+{}
+
+/// A key that is charged or put first is owed, and every key that was owed before still is; after a
+/// release every other key still is.
+pub fn no_debt_is_forgotten()
+    ensures { NoDebtIsForgotten }
 {}

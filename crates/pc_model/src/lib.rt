@@ -1,19 +1,25 @@
 //! The words of the whole library: calls and replies of an ordered map, entries of a history, and
-//! the cells of a tree. Every other crate stands on this one. It has types and definitions, and
-//! the laws over them; it runs nothing.
+//! the cells of a tree. Every other crate stands on this one. It has types and definitions, with the
+//! laws over them; it replays a list of entries, and keeps what a client owes.
 #![tactic(auto)]
 
 mod call;
 mod cell;
+mod first_wrong;
 mod laws;
 mod owed;
+#[cfg(test)]
+mod owed_tests;
+#[cfg(test)]
+mod replay_tests;
 #[cfg(test)]
 mod tests;
 
 pub use call::{Call, Entry, Memory, Reply};
 pub use cell::{Counter, Field};
+pub use first_wrong::{Wrong, replay};
 pub use laws::{
-    ceil_and_floor_are_nearest, history_of_one_client_is_its_calls, replay_goes_in_parts,
-    sorted_map_is_finite_map,
+    ceil_and_floor_are_nearest, history_of_one_client_is_its_calls, no_debt_is_forgotten,
+    replay_goes_in_parts, sorted_map_is_finite_map,
 };
-pub use owed::Settle;
+pub use owed::{Owed, Owing, Settle};

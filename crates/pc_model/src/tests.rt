@@ -91,4 +91,5 @@ fn laws_can_be_called(rt: HostRuntime) {
     ceil_and_floor_are_nearest();
     replay_goes_in_parts();
     history_of_one_client_is_its_calls();
+    no_debt_is_forgotten();
 }

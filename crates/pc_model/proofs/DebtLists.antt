@@ -1,0 +1,202 @@
+-- Lists of keys that are owed, and what is owed after each change.
+use Rattle.std.proofs.Common.{◌≡◌, ◌≢◌, ℕ, zero, suc, ◌+◌, ◌-◌, ◌≤◌, ◌<◌, ◌==◌, ◌⊎◌, inl, inr, nat_lt, min, Bool, true, false, not, ◌||◌, IsTrue, List, [], ◌∷◌, ◌++◌, length, take, drop, slice_index, filter, subst, ⊎_elim, get_or, Option, Some, None, refl, ap, sym, ◌∙◌, arith}
+use Rattle.std.proofs.lemmas.Bool.{cond_both, cases_eq, eq-eqb, eqb-true, ltb-false}
+use Rattle.std.proofs.lemmas.Bool.Decides.{nat_tests}
+use Rattle.std.proofs.lemmas.List.{take-append-drop, take-append-le, length-take-le}
+use Rattle.std.proofs.lemmas.Slice.{put_mid-rotated}
+use borrow.Rule.Slice.PartMut.{mid_of, put_mid}
+use Rattle.std.proofs.lemmas.List.Quantifiers.{position-Some}
+use Rattle.std.proofs.Math.Seq.{take-suc, take-length}
+use Rattle.std.proofs.lemmas.List.Folds.{list_any-append, list_any_at}
+use Rattle.std.proofs.lemmas.Iterator.Adapters.{position_from-zero}
+use Rattle.std.specs.List.{remove, position, position_from}
+use Rattle.std.specs.Option.{IsSomeAnd}
+use Rattle.pc_model.specs.Debts.{Debts, has, AreDifferent, IsOwed, without_key, lowered, with_room, charged, put_in_front, released}
+use Rattle.pc_model.specs.DebtLaws.{NoDebtIsForgotten}
+
+-- Keys in a list
+
+pub has-front : (k : ℕ) (keys : List ℕ) → has k (k ∷ keys) ≡ true
+has-front k keys = grind (arith, nat_tests)
+
+pub has-behind : (q k : ℕ) (keys : List ℕ) → has q keys ≡ true → has q (k ∷ keys) ≡ true
+has-behind q k keys there = grind (arith, nat_tests)
+
+pub has-without_key : (k : ℕ) (keys : List ℕ) → has k (without_key k keys) ≡ false
+has-without_key k [] = refl
+has-without_key k (x ∷ keys) = grind (arith, nat_tests, has-without_key k keys)
+
+pub has-without_other : (q k : ℕ) (keys : List ℕ) → q ≢ k → has q (without_key k keys) ≡ has q keys
+has-without_other q k [] differs = refl
+has-without_other q k (x ∷ keys) differs = grind (arith, nat_tests, has-without_other q k keys differs)
+
+pub without_key-absent : (k : ℕ) (keys : List ℕ) → has k keys ≡ false → without_key k keys ≡ keys
+without_key-absent k [] absent = refl
+without_key-absent k (x ∷ keys) absent = let rest : has k keys ≡ false → without_key k keys ≡ keys = without_key-absent k keys in grind (arith, nat_tests)
+
+take-take-le : (n m : ℕ) (keys : List ℕ) → n ≤ m → take n (take m keys) ≡ take n keys
+take-take-le zero m keys le = refl
+take-take-le (suc n) zero keys le = absurd (omega arith)
+take-take-le (suc n) (suc m) [] le = refl
+take-take-le (suc n) (suc m) (k ∷ keys) le = ap (λ (l : List ℕ). k ∷ l) (take-take-le n m keys (omega arith))
+
+pub has-take : (k n : ℕ) (keys : List ℕ) → has k keys ≡ false → has k (take n keys) ≡ false
+has-take k n keys absent = let whole : has k (take n keys ++ drop n keys) ≡ false = ap (has k) (take-append-drop n keys) ∙ absent in
+    let parts : has k (take n keys ++ drop n keys) ≡ (has k (take n keys) || has k (drop n keys)) = list_any-append (λ x. x == k) (take n keys) (drop n keys) in
+    grind (arith, nat_tests)
+
+pub length-without_key-le : (k : ℕ) (keys : List ℕ) → length (without_key k keys) ≤ length keys
+length-without_key-le k [] = omega arith
+length-without_key-le k (x ∷ keys) = let rest : length (without_key k keys) ≤ length keys = length-without_key-le k keys in grind (arith, nat_tests)
+
+-- a key that is there leaves a shorter list
+pub length-without_key : (k : ℕ) (keys : List ℕ) → has k keys ≡ true → length (without_key k keys) < length keys
+length-without_key k [] there = absurd cc
+length-without_key k (x ∷ keys) there =
+    let less : has k keys ≡ true → length (without_key k keys) < length keys = length-without_key k keys in
+    let rest : length (without_key k keys) ≤ length keys = length-without_key-le k keys in
+    grind (arith, nat_tests)
+
+-- Different keys
+
+has-take_fewer : (k n m : ℕ) (keys : List ℕ) → n ≤ m → has k (take m keys) ≡ false → has k (take n keys) ≡ false
+has-take_fewer k n m keys le absent = subst (λ (l : List ℕ). has k l ≡ false) (take-take-le n m keys le) (has-take k n (take m keys) absent)
+
+-- fewer of the first keys are different too
+pub different_fewer : (n m : ℕ) (keys : List ℕ) → n ≤ m → AreDifferent (take m keys) → AreDifferent (take n keys)
+different_fewer zero m keys le different = tt
+different_fewer (suc n) zero keys le different = absurd (omega arith)
+different_fewer (suc n) (suc m) [] le different = tt
+different_fewer (suc n) (suc m) (k ∷ keys) le different = (has-take_fewer k n m keys (omega arith) different.0, different_fewer n m keys (omega arith) different.1)
+
+has-without_key_absent : (q k : ℕ) (keys : List ℕ) → has q keys ≡ false → has q (without_key k keys) ≡ false
+has-without_key_absent q k [] absent = refl
+has-without_key_absent q k (x ∷ keys) absent = let rest : has q keys ≡ false → has q (without_key k keys) ≡ false = has-without_key_absent q k keys in grind (arith, nat_tests)
+
+pub different_without_key : (k : ℕ) (keys : List ℕ) → AreDifferent keys → AreDifferent (without_key k keys)
+different_without_key k [] different = tt
+different_without_key k (x ∷ keys) different =
+    cond_both (not (x == k)) (x ∷ without_key k keys) (without_key k keys) AreDifferent
+    (λ _. (has-without_key_absent x k keys different.0, different_without_key k keys different.1))
+    (λ _. different_without_key k keys different.1)
+
+-- taking away the one place of a key takes the key away
+pub remove-is_without_key : (i k : ℕ) (keys : List ℕ) → AreDifferent keys → i < length keys → get_or keys i 0 ≡ k → remove keys i ≡ without_key k keys
+remove-is_without_key i k [] different inside here = absurd (omega arith)
+remove-is_without_key zero k (x ∷ keys) different inside here =
+    let absent : has k keys ≡ false = subst (λ n. has n keys ≡ false) here different.0 in
+    let same : without_key k keys ≡ keys = without_key-absent k keys absent in
+    grind (arith, nat_tests)
+remove-is_without_key (suc i) k (x ∷ keys) different inside here =
+    let rest : remove keys i ≡ without_key k keys = remove-is_without_key i k keys different.1 (omega arith) here in
+    let there : has k keys ≡ true = list_any_at (λ y. y == k) keys i 0 (omega arith) (eq-eqb (get_or keys i 0) k here) in
+    grind (arith, nat_tests)
+
+absent_from : (k i : ℕ) (keys : List ℕ) → position_from (λ x. x == k) i keys ≡ None → has k keys ≡ false
+absent_from k i [] none = refl
+absent_from k i (x ∷ keys) none = let rest : position_from (λ y. y == k) (i + 1) keys ≡ None → has k keys ≡ false = absent_from k (i + 1) keys in elim (cases_eq x k) [
+  | inl same ↦ absurd (grind (arith, nat_tests))
+  | inr differs ↦ grind (arith, nat_tests)
+]
+
+-- a key that has no place isn't there
+pub absent_from_position : (k : ℕ) (keys : List ℕ) → position (λ x. x == k) keys ≡ None → has k keys ≡ false
+absent_from_position k keys none = absent_from k 0 keys (sym (position_from-zero (λ x. x == k) keys) ∙ none)
+
+take-remove : (i n : ℕ) (xs ys : List ℕ) → i ≤ n → n < length xs → take n (remove xs i ++ ys) ≡ remove (take (suc n) xs) i
+take-remove i n [] ys le few = absurd (omega arith)
+take-remove zero n (x ∷ xs) ys le few = take-append-le n xs ys (omega arith)
+take-remove (suc i) zero (x ∷ xs) ys le few = absurd (omega arith)
+take-remove (suc i) (suc n) (x ∷ xs) ys le few = ap (λ (l : List ℕ). x ∷ l) (take-remove i n xs ys (omega arith) (omega arith))
+
+-- An array of which the first are the list
+
+-- where the rest from the place of a key on is turned by one, one fewer of the array are the list without the key
+pub released_list : (array part : List ℕ) (count place k : ℕ) → length array ≡ 64 → count ≤ 64 → position (λ x. x == k) (take count array) ≡ Some place → AreDifferent (take count array)
+    → part ≡ drop 1 (mid_of place (64 - place) array) ++ take 1 (mid_of place (64 - place) array) → take (count - 1) (put_mid place (64 - place) array part) ≡ without_key k (take count array)
+released_list array part count place k long few found different turned =
+    let at = position-Some (λ x. x == k) (take count array) place 0 found in
+    let length_is : length (take count array) ≡ count = length-take-le count array (omega arith) in
+    let inside : place < count = omega (arith, at.0) in
+    let one : suc (count - 1) ≡ count = omega arith in
+    let whole : put_mid place (64 - place) array part ≡ remove array place ++ (get_or array place 0 ∷ []) = put_mid-rotated place (64 - place) array part 0 (omega arith) (omega arith) turned in
+    ap (take (count - 1)) whole
+    ∙ take-remove place (count - 1) array (get_or array place 0 ∷ []) (omega arith) (omega arith)
+    ∙ ap (λ n. remove (take n array) place) one
+    ∙ remove-is_without_key place k (take count array) different at.0 (eqb-true (get_or (take count array) place 0) k at.1)
+
+-- The number
+
+reached : (k : ℕ) (from : Option ℕ) → IsSomeAnd (lowered k from) (λ n. n ≤ k)
+reached k None = omega arith
+reached k (Some n) = omega arith
+
+still_reached : (q k : ℕ) (from : Option ℕ) → IsSomeAnd from (λ n. n ≤ q) → IsSomeAnd (lowered k from) (λ n. n ≤ q)
+still_reached q k None there = absurd there
+still_reached q k (Some n) there = omega arith
+
+-- Debts
+
+pub has-with_room : (k : ℕ) (d : Debts) → has k d.keys ≡ false → has k (with_room d).keys ≡ false
+has-with_room k d absent =
+    cond_both (nat_lt (length d.keys) 64) d (record { keys = take (length d.keys - 1) d.keys; from = lowered (slice_index d.keys (length d.keys - 1)) d.from }) (λ (e : Debts). has k e.keys ≡ false)
+    (λ _. absent) (λ _. has-take k (length d.keys - 1) d.keys absent)
+
+pub charged_is_owed : (k : ℕ) (d : Debts) → IsOwed k (charged k d)
+charged_is_owed k d =
+    cond_both (has k d.keys) d _ (λ (e : Debts). IsOwed k e) (λ there. inl there)
+    (λ absent. cond_both (nat_lt (length d.keys) 64) (record { keys = k ∷ d.keys; from = d.from }) (record { keys = d.keys; from = lowered k d.from }) (λ (e : Debts). IsOwed k e)
+    (λ room. inl (has-front k d.keys)) (λ full. inr (reached k d.from)))
+
+pub owed_after_charge : (q k : ℕ) (d : Debts) → IsOwed q d → IsOwed q (charged k d)
+owed_after_charge q k d owed =
+    cond_both (has k d.keys) d _ (λ (e : Debts). IsOwed q e) (λ there. owed)
+    (λ absent. cond_both (nat_lt (length d.keys) 64) (record { keys = k ∷ d.keys; from = d.from }) (record { keys = d.keys; from = lowered k d.from }) (λ (e : Debts). IsOwed q e)
+    (λ room. ⊎_elim (λ there. inl (has-behind q k d.keys there)) inr owed)
+    (λ full. ⊎_elim inl (λ from. inr (still_reached q k d.from from)) owed))
+
+pub first_is_owed : (k : ℕ) (d : Debts) → IsOwed k (put_in_front k d)
+first_is_owed k d =
+    cond_both (has k d.keys) (record { keys = k ∷ without_key k d.keys; from = d.from }) (record { keys = k ∷ (with_room d).keys; from = (with_room d).from }) (λ (e : Debts). IsOwed k e)
+    (λ there. inl (has-front k (without_key k d.keys))) (λ absent. inl (has-front k (with_room d).keys))
+
+-- a key of a list is the last one, or stands before it
+has-last : (q n : ℕ) (keys : List ℕ) → length keys ≡ suc n → has q keys ≡ true → (has q (take n keys) ≡ true) ⊎ (slice_index keys n ≡ q)
+has-last q n keys long there =
+    let last : ℕ = get_or keys n 0 in
+    let whole : keys ≡ take n keys ++ (last ∷ []) = sym (take-length keys) ∙ ap (λ m. take m keys) long ∙ take-suc keys n 0 (omega arith) in
+    let parts : has q (take n keys ++ (last ∷ [])) ≡ (has q (take n keys) || has q (last ∷ [])) = list_any-append (λ x. x == q) (take n keys) (last ∷ []) in
+    let some : (has q (take n keys) || has q (last ∷ [])) ≡ true = sym parts ∙ sym (ap (has q) whole) ∙ there in
+    elim (cases_eq last q) [
+      | inl same ↦ inr same
+      | inr differs ↦ inl (grind (arith, nat_tests))
+    ]
+
+owed_with_room : (q : ℕ) (d : Debts) → IsOwed q d → IsOwed q (with_room d)
+owed_with_room q d owed =
+    let last : ℕ = length d.keys - 1 in
+    cond_both (nat_lt (length d.keys) 64) d (record { keys = take last d.keys; from = lowered (slice_index d.keys last) d.from }) (λ (e : Debts). IsOwed q e) (λ room. owed)
+    (λ full. let many : 64 ≤ length d.keys = ltb-false (length d.keys) 64 full in ⊎_elim
+    (λ there. ⊎_elim inl (λ same. inr (subst (λ k. IsSomeAnd (lowered k d.from) (λ n. n ≤ q)) (sym same) (reached q d.from))) (has-last q last d.keys (omega arith) there))
+    (λ from. inr (still_reached q (slice_index d.keys last) d.from from)) owed)
+
+pub owed_after_put_first : (q k : ℕ) (d : Debts) → IsOwed q d → IsOwed q (put_in_front k d)
+owed_after_put_first q k d owed =
+    cond_both (has k d.keys) (record { keys = k ∷ without_key k d.keys; from = d.from }) (record { keys = k ∷ (with_room d).keys; from = (with_room d).from }) (λ (e : Debts). IsOwed q e)
+    (λ there. elim (cases_eq q k) [
+      | inl same ↦ inl (subst (λ n. has n (k ∷ without_key k d.keys) ≡ true) (sym same) (has-front k (without_key k d.keys)))
+      | inr differs ↦ ⊎_elim (λ in_list. inl (has-behind q k (without_key k d.keys) (has-without_other q k d.keys differs ∙ in_list))) inr owed
+    ])
+    (λ absent. ⊎_elim (λ in_list. inl (has-behind q k (with_room d).keys in_list)) inr (owed_with_room q d owed))
+
+pub owed_after_release : (q k : ℕ) (d : Debts) → q ≢ k → IsOwed q d → IsOwed q (released k d)
+owed_after_release q k d differs owed = ⊎_elim (λ there. inl (has-without_other q k d.keys differs ∙ there)) inr owed
+
+pub no_debt_is_forgotten : NoDebtIsForgotten
+no_debt_is_forgotten = record {
+  charged_is_owed = charged_is_owed;
+  owed_after_charge = owed_after_charge;
+  first_is_owed = first_is_owed;
+  owed_after_put_first = owed_after_put_first;
+  owed_after_release = owed_after_release;
+}
