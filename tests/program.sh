@@ -27,7 +27,9 @@ check 'no command' 0 'left 0\nend\n' ''
 check 'a second put' 0 '1 1.1 put 5 1 = new\n2 1.2 put 5 2 = was 1\nleft 1\n5 2\nend\n' 'put 5 1\nput 5 2\n'
 check 'the greatest numbers' 0 '1 1.1 put 0 0 = new\n2 1.2 put 999999999999999999 999999999999999999 = new\nleft 2\n0 0\n999999999999999999 999999999999999999\nend\n' 'put 0 0\nput 999999999999999999 999999999999999999\n'
 check 'a word too many' 2 'fault usage\n' 'put 5 50\n' --tree
-check 'a command that is not built' 3 'fault not built\n' 'remove 5\n'
+check 'a remove with two children' 0 '1 1.1 put 2 20 = new\n2 1.2 put 1 10 = new\n3 1.3 put 3 30 = new\n4 1.4 remove 2 = 20\nleft 2\n1 10\n3 30\nend\n' 'put 2 20\nput 1 10\nput 3 30\nremove 2\n'
+check 'ceil and floor' 0 '1 1.1 put 5 50 = new\n2 1.2 put 9 90 = new\n3 1.3 ceil 7 = 9 90\n4 1.4 floor 7 = 5 50\n5 1.5 ceil 10 = none\nleft 2\n5 50\n9 90\nend\n' 'put 5 50\nput 9 90\nceil 7\nfloor 7\nceil 10\n'
+check 'a word that is not UTF-8' 2 'fault usage\n' '' $'\xff'
 check 'a number too large' 3 'fault not built\n' 'put 1000000000000000000 1\n'
 check 'no line feed at the end' 3 'fault not built\n' 'get 5'
 

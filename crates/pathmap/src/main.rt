@@ -6,19 +6,18 @@ mod reading;
 mod running;
 mod serve;
 
-use pc_edge::{OpenGate, StdSink, StdSource};
-use serve::serve;
+use pc_edge::{OpenGate, Sink, StdSink, StdSource};
+use pc_text::Fault;
+use serve::{refuse, serve};
 use std::alloc::{AllocError, Global};
+use std::io::ErrorKind;
 use std::process::ExitCode;
 use std::{env, io};
 
-/// The status where the words of the command line can't be had.
+/// The status where there is no memory for the words of the command line.
 const NO_WORDS: u8 = 10;
 
 fn main(rt: HostRuntime) -> ExitCode {
-    let Ok(words) = words_of(rt.alloc(), &rt) else {
-        return ExitCode::from(NO_WORDS);
-    };
     let mut source = StdSource {
         inner: rt.reader(),
         faults: 0,
@@ -27,8 +26,21 @@ fn main(rt: HostRuntime) -> ExitCode {
         inner: io::writer(&rt),
         faults: 0,
     };
+    let words = match words_of(rt.alloc(), &rt) {
+        Ok(words) => words,
+        Err(error) => return ExitCode::from(refuse_words(&mut sink, error.kind())),
+    };
     let outcome = serve(&rt, rt.alloc(), &words, &mut source, &mut sink, &OpenGate);
     ExitCode::from(outcome.status)
+}
+
+/// A word that isn't UTF-8 makes a faulty command line. Where memory was wanting, nothing is written.
+fn refuse_words<K: Sink>(sink: &mut K, error: ErrorKind) -> u8 {
+    if error == ErrorKind::InvalidData {
+        refuse(sink, &Fault::Usage)
+    } else {
+        NO_WORDS
+    }
 }
 
 /// The words of the command line, the program's name first.

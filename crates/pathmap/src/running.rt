@@ -2,14 +2,15 @@
 ghost use Rattle.std.specs.Prelude.{◌≡◌, ◌+◌, ◌<◌, ◌≤◌, ◌∷◌, [], length, All, IfOk};
 ghost use Rattle.pc_model.specs.Calls.{is_put, puts_in};
 ghost use Rattle.pc_model.specs.Counts.{one_if};
-ghost use Rattle.pc_text.specs.ScriptFacts.{IsCallInRange, IsPutOrGet};
+ghost use Rattle.pc_text.specs.ScriptFacts.{IsCallInRange};
 ghost use Rattle.pc_plain.specs.PlainCells.{IsEmptyTree};
 ghost use Rattle.pc_plain.specs.PlainRuns.{IsRunOf, RunsRight};
 ghost use Rattle.pc_bst.specs.PlainTrees.{IsPlainTree};
 ghost use Rattle.pathmap.specs.Running.{IsOneHistory, HasRoomFor, AnswersAs, HasRun};
 
-use pc_bst::{BstGet, BstPut};
+use pc_bst::{BstGet, BstPut, BstRemove};
 use pc_model::{Call, Entry, Memory, Reply};
+use pc_order::{CeilPlan, FloorPlan};
 use pc_plain::{PlainCells, pairs, run_plan};
 use pc_plan::Plan;
 use std::alloc::Global;
@@ -25,7 +26,6 @@ pub struct Run {
 pub fn run_alone(alloc: Global, calls: &[Call]) -> Result<Run, Memory>
     requires few { length calls.now ≤ 60000 }
     requires in_range { All IsCallInRange calls.now }
-    requires plain { All IsPutOrGet calls.now }
     ensures { IfOk result (λ run. IsOneHistory (calls.now ∷ []) run.history.items run.pairs.items) }
 {
     let mut cells = PlainCells::new(alloc, count_puts(calls) + 1)?;
@@ -62,7 +62,6 @@ fn run_calls(alloc: Global, cells: &mut PlainCells, calls: &[Call]) -> Result<Ve
     requires size { cells.old.slots ≡ puts_in calls.now + 1 }
     requires few { length calls.now ≤ 60000 }
     requires in_range { All IsCallInRange calls.now }
-    requires plain { All IsPutOrGet calls.now }
     ensures { IfOk result (λ history. HasRun cells.old.slots calls.now cells.new history.items) }
 {
     let Ok(mut history) = Vec::with_capacity(alloc, calls.len()) else {
@@ -93,14 +92,15 @@ fn entry_of(place: usize, call: Call, reply: Reply) -> Entry
 fn answer(cells: &mut PlainCells, call: Call) -> Reply
     requires room { HasRoomFor IsPlainTree cells.old }
     requires in_range { IsCallInRange call }
-    requires plain { IsPutOrGet call }
     ensures right { AnswersAs call cells.old cells.new result }
     ensures size { cells.new.slots ≡ cells.old.slots }
 {
     match call {
         Call::Put { key, value } => reply_by::<BstPut>(cells, (key, value)),
         Call::Get { key } => reply_by::<BstGet>(cells, key),
-        Call::Remove { .. } | Call::Ceil { .. } | Call::Floor { .. } => unreachable!(),
+        Call::Remove { key } => reply_by::<BstRemove>(cells, key),
+        Call::Ceil { key } => reply_by::<CeilPlan>(cells, key),
+        Call::Floor { key } => reply_by::<FloorPlan>(cells, key),
     }
 }
 

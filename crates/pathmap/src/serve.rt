@@ -4,7 +4,7 @@ ghost use Rattle.pathmap.specs.Reading.{TakesAtMost};
 ghost use Rattle.pathmap.specs.Serving.{PrintsOneHistory, PrintsFront, EndsInFault, IsCauseOf, HasRunAll, WritesFault, IsTooLong, IsRefused, EndsUnlessStopped, status_of, RunsBytes, IsBytesFault, unread_fault, PrintsOrStops};
 ghost use Rattle.pathmap.specs.Running.{IsOneHistory};
 ghost use Rattle.pc_edge.specs.Faults.{HasRisen};
-ghost use Rattle.pc_text.specs.ScriptFacts.{AreFew, AreInRange, ArePutsAndGets};
+ghost use Rattle.pc_text.specs.ScriptFacts.{AreFew, AreInRange};
 
 use crate::reading::{Unread, read_all};
 use crate::running::{Run, run_alone};
@@ -117,7 +117,6 @@ fn run_script(alloc: Global, script: &Script) -> Result<Run, Memory>
     requires one_list { length script.now.calls ≡ 1 }
     requires few { AreFew script.now.calls }
     requires in_range { AreInRange script.now.calls }
-    requires plain { ArePutsAndGets script.now.calls }
     ensures { IfOk result (λ run. IsOneHistory script.now.calls run.history.items run.pairs.items) }
 {
     let calls: &[Call] = &script.calls[0];
@@ -138,8 +137,8 @@ fn print<K: Sink>(sink: &mut K, run: &Run) -> u8
     }
 }
 
-// Writes a fault's line, and gives its status whether or not it was written.
-fn refuse<K: Sink>(sink: &mut K, fault: &Fault) -> u8
+/// Writes a fault's line, and gives its status whether or not it was written.
+pub fn refuse<K: Sink>(sink: &mut K, fault: &Fault) -> u8
     ensures status { result ≡ status_of fault.now }
     ensures line { WritesFault (K.held sink.old) (K.held sink.new) (K.faults sink.old) (K.faults sink.new) fault.now }
     ensures never_falls { K.faults sink.old ≤ K.faults sink.new }

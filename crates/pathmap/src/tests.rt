@@ -55,7 +55,7 @@ fn status_of_run<R: Threads + Wait + Sync>(
 #[test]
 fn each_input_has_its_status_and_output(rt: HostRuntime) -> Result<(), Fail> {
     let alloc = rt.alloc();
-    let rows: [(&str, u8, &str); 11] = [
+    let rows: [(&str, u8, &str); 16] = [
         ("", 0, "left 0\nend\n"),
         (
             "put 5 50\nget 5\n",
@@ -77,7 +77,34 @@ fn each_input_has_its_status_and_output(rt: HostRuntime) -> Result<(), Fail> {
             0,
             "1 1.1 put 3 30 = new\n2 1.2 put 1 10 = new\n3 1.3 put 2 20 = new\n4 1.4 get 2 = 20\n5 1.5 get 4 = none\nleft 3\n1 10\n2 20\n3 30\nend\n",
         ),
-        ("remove 5\n", 3, "fault not built\n"),
+        (
+            "get 5\nremove 5\n",
+            0,
+            "1 1.1 get 5 = none\n2 1.2 remove 5 = none\nleft 0\nend\n",
+        ),
+        // The successor is the right child itself.
+        (
+            "put 2 20\nput 1 10\nput 3 30\nremove 2\n",
+            0,
+            "1 1.1 put 2 20 = new\n2 1.2 put 1 10 = new\n3 1.3 put 3 30 = new\n4 1.4 remove 2 = 20\nleft 2\n1 10\n3 30\nend\n",
+        ),
+        // The successor lies deeper and has a right child.
+        (
+            "put 10 10\nput 5 5\nput 20 20\nput 15 15\nput 25 25\nput 17 17\nremove 10\n",
+            0,
+            "1 1.1 put 10 10 = new\n2 1.2 put 5 5 = new\n3 1.3 put 20 20 = new\n4 1.4 put 15 15 = new\n5 1.5 put 25 25 = new\n6 1.6 put 17 17 = new\n7 1.7 remove 10 = 10\nleft 5\n5 5\n15 15\n17 17\n20 20\n25 25\nend\n",
+        ),
+        (
+            "put 5 50\nput 9 90\nceil 7\nfloor 7\nceil 10\nfloor 4\nceil 5\nfloor 9\n",
+            0,
+            "1 1.1 put 5 50 = new\n2 1.2 put 9 90 = new\n3 1.3 ceil 7 = 9 90\n4 1.4 floor 7 = 5 50\n5 1.5 ceil 10 = none\n6 1.6 floor 4 = none\n7 1.7 ceil 5 = 5 50\n8 1.8 floor 9 = 9 90\nleft 2\n5 50\n9 90\nend\n",
+        ),
+        (
+            "put 1 1\nremove 1\nput 1 2\nremove 1\nput 1 3\n",
+            0,
+            "1 1.1 put 1 1 = new\n2 1.2 remove 1 = 1\n3 1.3 put 1 2 = new\n4 1.4 remove 1 = 2\n5 1.5 put 1 3 = new\nleft 1\n1 3\nend\n",
+        ),
+        ("remove 5 6\n", 3, "fault not built\n"),
         ("get 5", 3, "fault not built\n"),
         ("put  5 1\n", 3, "fault not built\n"),
         ("put 1000000000000000000 1\n", 3, "fault not built\n"),

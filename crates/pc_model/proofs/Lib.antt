@@ -5,6 +5,7 @@ pub mod HolePairs
 pub mod Holes
 pub mod Links
 pub mod MapLawProofs
+pub mod Removal
 pub mod Replaying
 pub mod Sizes
 pub mod SortedLists

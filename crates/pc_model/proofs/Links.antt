@@ -1,5 +1,5 @@
 -- The node that a link names.
-use Rattle.std.proofs.Common.{◌≡◌, ◌≢◌, ℕ, ◌≤◌, ◌==◌, ⊎_elim, if◌then◌else◌, false, Option, Some, None, ◌∙◌, arith}
+use Rattle.std.proofs.Common.{◌≡◌, ◌≢◌, ℕ, ◌≤◌, ◌==◌, ⊎_elim, if◌then◌else◌, false, Some, None, ◌∙◌, arith}
 use Rattle.std.specs.Prelude.{nat_lt}
 use Rattle.std.proofs.lemmas.Bool.{cases_Bool, eqb-false, ne_eqb, le-ltb, cond-true, cond-false}
 use Rattle.pc_model.specs.Cells.{node_at}

@@ -123,7 +123,7 @@ pub without-between : (k : ℕ) (before ps after : Pairs) → AreBelow k before 
 without-between k before ps after below above =
     without-right k before (ps ++ after) below ∙ ap (λ (qs : Pairs). before ++ qs) (without-left k ps after above)
 
-found_or-None : (o : Option (ℕ × ℕ)) → o ≡ found_or o None
+pub found_or-None : (o : Option (ℕ × ℕ)) → o ≡ found_or o None
 found_or-None None = refl
 found_or-None (Some p) = refl
 
@@ -194,6 +194,36 @@ floor_of-right k (p ∷ before) ps below =
 pub floor_of-between : (k : ℕ) (before ps after : Pairs) → AreBelow k before → AreAbove k after → floor_of k (before ++ (ps ++ after)) ≡ found_or (floor_of k ps) (last_of before)
 floor_of-between k before ps after below above =
     floor_of-right k before (ps ++ after) below ∙ ap (λ o. found_or o (last_of before)) (floor_of-left k ps after above)
+
+-- The nearest keys, at a pair with smaller keys before it and greater keys behind
+
+-- a pair from k up is the ceil, unless there is one before it
+pub ceil_of-front : (k : ℕ) (a : Pairs) (p : ℕ × ℕ) (b : Pairs) → k ≤ p.0 → ceil_of k (a ++ (p ∷ b)) ≡ found_or (ceil_of k a) (Some p)
+ceil_of-front k a p b le = ceil_of-append k a (p ∷ b) ∙ ap (found_or (ceil_of k a)) (ceil_of-stop k p b le)
+
+pub ceil_of-back : (k : ℕ) (a : Pairs) (p : ℕ × ℕ) (b : Pairs) → AreBelow p.0 a → p.0 < k → ceil_of k (a ++ (p ∷ b)) ≡ ceil_of k b
+ceil_of-back k a p b below less = ceil_of-between k a (p ∷ b) (below_weaker p.0 k a (omega arith) below) ∙ ceil_of-skip k p b less
+
+pub ceil_of-here : (k : ℕ) (a : Pairs) (p : ℕ × ℕ) (b : Pairs) → AreBelow p.0 a → k ≡ p.0 → ceil_of k (a ++ (p ∷ b)) ≡ Some p
+ceil_of-here k a p b below same = ceil_of-between k a (p ∷ b) (below_weaker p.0 k a (omega arith) below) ∙ ceil_of-stop k p b (omega arith)
+
+pub floor_of-front : (k : ℕ) (a : Pairs) (p : ℕ × ℕ) (b : Pairs) → AreAbove p.0 b → k < p.0 → floor_of k (a ++ (p ∷ b)) ≡ floor_of k a
+floor_of-front k a p b above less = floor_of-left k a (p ∷ b) (less, above_weaker k p.0 b (omega arith) above)
+
+later_found_or : (p : ℕ × ℕ) (o other : Option (ℕ × ℕ)) → found_or (later p o) other ≡ found_or o (Some p)
+later_found_or p None other = refl
+later_found_or p (Some q) other = refl
+
+-- a pair down from k is the floor, unless there is one behind it
+pub floor_of-back : (k : ℕ) (a : Pairs) (p : ℕ × ℕ) (b : Pairs) → AreBelow p.0 a → p.0 ≤ k → floor_of k (a ++ (p ∷ b)) ≡ found_or (floor_of k b) (Some p)
+floor_of-back k a p b below le =
+    floor_of-right k a (p ∷ b) (below_weaker p.0 k a le below)
+    ∙ ap (λ o. found_or o (last_of a)) (floor_of-take k p b le)
+    ∙ later_found_or p (floor_of k b) (last_of a)
+
+pub floor_of-here : (k : ℕ) (a : Pairs) (p : ℕ × ℕ) (b : Pairs) → AreBelow p.0 a → AreAbove p.0 b → k ≡ p.0 → floor_of k (a ++ (p ∷ b)) ≡ Some p
+floor_of-here k a p b below above same =
+    floor_of-back k a p b below (omega arith) ∙ ap (λ o. found_or o (Some p)) (floor_of-above k b (above_weaker k p.0 b (omega arith) above))
 
 -- The ends
 

@@ -10,7 +10,7 @@ use Rattle.pc_text.specs.declared.kind.ScriptKind.TheVariants.{BadByte, TooManyL
 use Rattle.pc_text.specs.declared.line.LineClass.TheVariants.{Command, Bad}
 use Rattle.pc_text.specs.Parts.{parts_of, EndsFirstPart}
 use Rattle.pc_text.specs.Script.{class_of_rest, classes_of_parts, classes_of, first_bad, clients_of, calls_of, script_of}
-use Rattle.pc_text.specs.ScriptFacts.{IsCallInRange, IsPutOrGet}
+use Rattle.pc_text.specs.ScriptFacts.{IsCallInRange}
 use Rattle.pc_text.specs.ScriptValue.{ScriptValue}
 use Rattle.pc_text.specs.ScriptWords.{class_of}
 
@@ -35,14 +35,13 @@ pub record HasRead (bytes rest : List ℕ) (calls : List Call) (count : ℕ) : T
   pub commands : calls_of 1 1 (classes_of bytes) ≡ calls ++ calls_of 1 1 (classes_of rest)
   pub few : count ≤ 60000
   pub in_range : All IsCallInRange calls
-  pub puts_and_gets : All IsPutOrGet calls
 
 pub has_read_none : (bytes : List ℕ) → HasRead bytes bytes [] 0
-has_read_none bytes = record { faults = refl; clients = refl; commands = refl; few = omega arith; in_range = λ k d below. absurd (omega arith); puts_and_gets = λ k d below. absurd (omega arith) }
+has_read_none bytes = record { faults = refl; clients = refl; commands = refl; few = omega arith; in_range = λ k d below. absurd (omega arith) }
 
 -- one more line that is a command
-pub has_read_more : (bytes rest : List ℕ) (calls : List Call) (count end : ℕ) (call : Call) → HasRead bytes rest calls count → EndsFirstPart 10 rest (Some end) → Command call ≡ class_of (take end rest) → count < 60000 → IsCallInRange call → IsPutOrGet call → HasRead bytes (drop (end + 1) rest) (calls ++ call ∷ []) (count + 1)
-has_read_more bytes rest calls count end call read ends command room in_range put_or_get =
+pub has_read_more : (bytes rest : List ℕ) (calls : List Call) (count end : ℕ) (call : Call) → HasRead bytes rest calls count → EndsFirstPart 10 rest (Some end) → Command call ≡ class_of (take end rest) → count < 60000 → IsCallInRange call → HasRead bytes (drop (end + 1) rest) (calls ++ call ∷ []) (count + 1)
+has_read_more bytes rest calls count end call read ends command room in_range =
     let more = drop (end + 1) rest in
     let first : classes_of rest ≡ Command call ∷ classes_of more = classes_of-first rest end ends ∙ ap (λ line. line ∷ classes_of more) (sym command) in
     let test : nat_lt count 60000 ≡ true = lt-ltb count 60000 room in
@@ -52,7 +51,6 @@ has_read_more bytes rest calls count end call read ends command room in_range pu
       commands = read.commands ∙ ap (λ lines. calls ++ calls_of 1 1 lines) first ∙ sym (append_assoc calls (call ∷ []) (calls_of 1 1 (classes_of more)));
       few = omega arith;
       in_range = All-push IsCallInRange calls call read.in_range in_range;
-      puts_and_gets = All-push IsPutOrGet calls call read.puts_and_gets put_or_get;
     }
 
 -- a script has one client where it is read

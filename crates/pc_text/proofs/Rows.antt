@@ -2,7 +2,7 @@
 use Rattle.std.proofs.Common.{◌≡◌, ℕ, List, [], ◌∷◌, Result, Ok, Err, refl}
 use Rattle.std.specs.Prelude.{codes}
 use Rattle.pc_model.specs.declared.call.Call.{Call}
-use Rattle.pc_model.specs.declared.call.Call.TheVariants.{Put, Get}
+use Rattle.pc_model.specs.declared.call.Call.TheVariants.{Put, Get, Remove, Ceil, Floor}
 use Rattle.pc_text.specs.declared.kind.ScriptKind.{ScriptKind}
 use Rattle.pc_text.specs.declared.kind.ScriptKind.TheVariants.{BadByte, UnknownWord, WordCount, BadNumber}
 use Rattle.pc_text.specs.Script.{script_of}
@@ -23,8 +23,20 @@ last_numbers = refl
 leading_zeros : script_of (codes "get 007\n") ≡ one_client (Get 7 ∷ [])
 leading_zeros = refl
 
-no_such_command : script_of (codes "remove 5\n") ≡ Err (1, UnknownWord)
+all_commands : script_of (codes "put 5 50\nget 5\nremove 6\nceil 7\nfloor 8\n") ≡ one_client (Put 5 50 ∷ Get 5 ∷ Remove 6 ∷ Ceil 7 ∷ Floor 8 ∷ [])
+all_commands = refl
+
+no_such_command : script_of (codes "delete 5\n") ≡ Err (1, UnknownWord)
 no_such_command = refl
+
+a_lone_word : script_of (codes "remove\n") ≡ Err (1, WordCount)
+a_lone_word = refl
+
+a_ceil_of_two : script_of (codes "ceil 5 6\n") ≡ Err (1, WordCount)
+a_ceil_of_two = refl
+
+a_floor_of_none : script_of (codes "floor x\n") ≡ Err (1, BadNumber)
+a_floor_of_none = refl
 
 no_last_line_feed : script_of (codes "get 5") ≡ Err (1, BadByte)
 no_last_line_feed = refl

@@ -13,13 +13,6 @@ IsCallInRange (Remove key) = key ≤ 999999999999999999
 IsCallInRange (Ceil key) = key ≤ 999999999999999999
 IsCallInRange (Floor key) = key ≤ 999999999999999999
 
-abbrev pub IsPutOrGet : Call → Type 0
-IsPutOrGet (Put key value) = ⊤
-IsPutOrGet (Get key) = ⊤
-IsPutOrGet (Remove key) = ⊥
-IsPutOrGet (Ceil key) = ⊥
-IsPutOrGet (Floor key) = ⊥
-
 -- each list has at most 60,000 calls
 abbrev pub AreFew : List (List Call) → Type 0
 AreFew lists = All (λ calls. length calls ≤ 60000) lists
@@ -28,13 +21,9 @@ AreFew lists = All (λ calls. length calls ≤ 60000) lists
 abbrev pub AreInRange : List (List Call) → Type 0
 AreInRange lists = All (All IsCallInRange) lists
 
--- there are no other calls than puts and gets
-abbrev pub ArePutsAndGets : List (List Call) → Type 0
-ArePutsAndGets lists = All (All IsPutOrGet) lists
-
--- a line is a put or a get with numbers in range, or it is bad
-abbrev pub IsPlain : LineClass → Type 0
-IsPlain Skip = ⊥
-IsPlain (Turn client) = ⊥
-IsPlain (Command call) = IsCallInRange call × IsPutOrGet call
-IsPlain (Bad kind) = ⊤
+-- a line is a command with numbers in range, or it is bad
+abbrev pub IsCommandOrBad : LineClass → Type 0
+IsCommandOrBad Skip = ⊥
+IsCommandOrBad (Turn client) = ⊥
+IsCommandOrBad (Command call) = IsCallInRange call
+IsCommandOrBad (Bad kind) = ⊤

@@ -4,9 +4,13 @@ use Rattle.std.specs.Char.{is_ascii_digit}
 use Rattle.std.specs.List.{list_all}
 use Rattle.std.specs.Str.{bytes_eq}
 use Rattle.std.specs.Str.Parse.{digits_value}
-use Rattle.pc_model.specs.declared.call.Call.TheVariants.{Put, Get}
+use Rattle.pc_model.specs.declared.call.Call.{Call}
+use Rattle.pc_model.specs.declared.call.Call.TheVariants.{Put}
+use Rattle.pc_model.specs.declared.call.Call.TheVariants as call
 use Rattle.pc_text.specs.Parts.{parts_of}
 use Rattle.pc_text.specs.declared.kind.ScriptKind.TheVariants.{UnknownWord, WordCount, BadNumber}
+use Rattle.pc_text.specs.declared.line.KeyCommand.{KeyCommand}
+use Rattle.pc_text.specs.declared.line.KeyCommand.TheVariants.{Get, Remove, Ceil, Floor}
 use Rattle.pc_text.specs.declared.line.LineClass.{LineClass}
 use Rattle.pc_text.specs.declared.line.LineClass.TheVariants.{Command, Bad}
 
@@ -31,22 +35,36 @@ abbrev pub put_of : List (List ℕ) → LineClass
 put_of (key ∷ value ∷ []) = put_with (number_of key) (number_of value)
 put_of _ = Bad WordCount
 
--- a get takes a key
-abbrev pub get_with : Option ℕ → LineClass
-get_with (Some key) = Command (Get key)
-get_with None = Bad BadNumber
+-- the commands that take a key alone, by their words
+abbrev pub key_command_of : List ℕ → Option KeyCommand
+key_command_of word =
+    if bytes_eq word (codes "get") then Some Get
+    else if bytes_eq word (codes "remove") then Some Remove
+    else if bytes_eq word (codes "ceil") then Some Ceil
+    else if bytes_eq word (codes "floor") then Some Floor
+    else None
 
-abbrev pub get_of : List (List ℕ) → LineClass
-get_of (key ∷ []) = get_with (number_of key)
-get_of _ = Bad WordCount
+-- what such a command is at a key
+abbrev pub call_at : KeyCommand → ℕ → Call
+call_at Get key = call.Get key
+call_at Remove key = call.Remove key
+call_at Ceil key = call.Ceil key
+call_at Floor key = call.Floor key
+
+abbrev pub key_with : KeyCommand → Option ℕ → LineClass
+key_with command (Some key) = Command (call_at command key)
+key_with command None = Bad BadNumber
+
+abbrev pub key_of : Option KeyCommand → List (List ℕ) → LineClass
+key_of None _ = Bad UnknownWord
+key_of (Some command) (key ∷ []) = key_with command (number_of key)
+key_of (Some command) _ = Bad WordCount
 
 -- the first word says which command it is
 abbrev pub class_of_words : List (List ℕ) → LineClass
 class_of_words [] = Bad UnknownWord
 class_of_words (word ∷ words) =
-    if bytes_eq word (codes "put") then put_of words
-    else if bytes_eq word (codes "get") then get_of words
-    else Bad UnknownWord
+    if bytes_eq word (codes "put") then put_of words else key_of (key_command_of word) words
 
 -- what a line is, where a line feed ends it
 abbrev pub class_of : List ℕ → LineClass

@@ -90,6 +90,54 @@ fn every_command_and_reply_has_its_text(rt: HostRuntime) -> Result<(), Fail> {
     Ok(())
 }
 
+fn entry_of(number: u32, call: Call, reply: Reply) -> Entry {
+    Entry {
+        pass: 1,
+        number,
+        call,
+        reply,
+        stamp: 0,
+    }
+}
+
+#[test]
+fn nearest_pairs_print(rt: HostRuntime) -> Result<(), Fail> {
+    let history = [
+        entry_of(1, Call::Put { key: 5, value: 50 }, Reply::New),
+        entry_of(2, Call::Put { key: 9, value: 90 }, Reply::New),
+        entry_of(3, Call::Ceil { key: 7 }, Reply::Pair(9, 90)),
+        entry_of(4, Call::Floor { key: 7 }, Reply::Pair(5, 50)),
+        entry_of(5, Call::Ceil { key: 10 }, Reply::None),
+        entry_of(6, Call::Floor { key: 4 }, Reply::None),
+    ];
+    let mut sink = MemorySink::with_room(rt.alloc(), 1000, 1000).expect(&rt, "ample memory");
+    assert_eq!(rt;
+        print_run(&mut sink, &history, &[(5, 50), (9, 90)], PLAIN),
+        Ok(())
+    );
+    let wanted =
+        b"1 1.1 put 5 50 = new\n2 1.2 put 9 90 = new\n3 1.3 ceil 7 = 9 90\n4 1.4 floor 7 = 5 50\n5 1.5 ceil 10 = none\n6 1.6 floor 4 = none\nleft 2\n5 50\n9 90\nend\n";
+    assert_eq!(rt; sink.held.as_slice(), wanted.as_slice());
+    Ok(())
+}
+
+#[test]
+fn removals_print(rt: HostRuntime) -> Result<(), Fail> {
+    let history = [
+        entry_of(1, Call::Put { key: 2, value: 20 }, Reply::New),
+        entry_of(2, Call::Remove { key: 5 }, Reply::None),
+        entry_of(3, Call::Get { key: 2 }, Reply::Value(20)),
+        entry_of(4, Call::Remove { key: 2 }, Reply::Value(20)),
+        entry_of(5, Call::Get { key: 2 }, Reply::None),
+    ];
+    let mut sink = MemorySink::with_room(rt.alloc(), 1000, 1000).expect(&rt, "ample memory");
+    assert_eq!(rt; print_run(&mut sink, &history, &[], PLAIN), Ok(()));
+    let wanted =
+        b"1 1.1 put 2 20 = new\n2 1.2 remove 5 = none\n3 1.3 get 2 = 20\n4 1.4 remove 2 = 20\n5 1.5 get 2 = none\nleft 0\nend\n";
+    assert_eq!(rt; sink.held.as_slice(), wanted.as_slice());
+    Ok(())
+}
+
 #[test]
 fn each_fault_has_its_line(rt: HostRuntime) -> Result<(), Fail> {
     let script = |kind: ScriptKind| Fault::Script { line: 12, kind };

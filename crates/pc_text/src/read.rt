@@ -1,7 +1,7 @@
 //! Reading a script from its bytes, in one pass.
 ghost use Rattle.std.specs.Prelude.{◌≡◌, ◌≤◌, [], ◌∷◌, length, IfOk, All, IsErr, vec_len};
 ghost use Rattle.pc_text.specs.Script.{script_of};
-ghost use Rattle.pc_text.specs.ScriptFacts.{AreFew, AreInRange, ArePutsAndGets, IsCallInRange, IsPutOrGet};
+ghost use Rattle.pc_text.specs.ScriptFacts.{AreFew, AreInRange, IsCallInRange};
 
 use crate::line::{LineClass, read_line};
 use crate::parts::{after_cut, first_part_end};
@@ -13,8 +13,9 @@ use std::alloc::Global;
 const MOST_COMMANDS: usize = 60_000;
 
 /// Reads a script: exactly where the bytes spell one it is the answer, unless memory is wanting.
-/// Every line is `put KEY VALUE` or `get KEY` and a line feed, with single spaces and numbers of 1 to
-/// 18 digits. There are at most 60,000 lines. The commands are all of one client.
+/// Every line is `put KEY VALUE`, `get KEY`, `remove KEY`, `ceil KEY` or `floor KEY` and a line feed,
+/// with single spaces and numbers of 1 to 18 digits. There are at most 60,000 lines. The commands are
+/// all of one client.
 pub fn read_script(alloc: Global, bytes: &[u8]) -> Result<Script, ScriptFault>
     requires { length bytes.now ≤ 4194304 }
     ensures script { IfOk result (λ script. script_of bytes.now ≡ Ok script) }
@@ -23,7 +24,6 @@ pub fn read_script(alloc: Global, bytes: &[u8]) -> Result<Script, ScriptFault>
     ensures one_list { IfOk result (λ script. length script.calls ≡ 1) }
     ensures few { IfOk result (λ script. AreFew script.calls) }
     ensures in_range { IfOk result (λ script. AreInRange script.calls) }
-    ensures puts_and_gets { IfOk result (λ script. ArePutsAndGets script.calls) }
 {
     let calls = read_calls(alloc, bytes)?;
     let mut lists = Vec::new(alloc);
@@ -41,7 +41,6 @@ fn read_calls(alloc: Global, bytes: &[u8]) -> Result<Vec<Call>, ScriptFault>
     ensures not_built { result ≡ Err ScriptFault.NotBuilt → IsErr (script_of bytes.now) }
     ensures few { IfOk result (λ calls. vec_len calls ≤ 60000) }
     ensures in_range { IfOk result (λ calls. All IsCallInRange calls.items) }
-    ensures puts_and_gets { IfOk result (λ calls. All IsPutOrGet calls.items) }
 {
     let mut calls = Vec::new(alloc);
     let mut rest = bytes;

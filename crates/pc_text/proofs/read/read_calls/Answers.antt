@@ -11,4 +11,4 @@ loop-end-preserved c =
     let line = c.in-Command.ensures in
     let room : vec_len c.loop-end.calls < 60000 = omega (arith, c.if-len-eq-MOST_COMMANDS.false, c.len.ensures) in
     rw (c.after_cut-rest.ensures, c.in_ok-push-in-Command.ensures.items, c.in_ok-push-in-Command.ensures.len)
-    (has_read_more c.args.bytes.now c.loop-end.rest.now c.loop-end.calls.items (vec_len c.loop-end.calls) c.in-Some.end c.in-Command.call c.loop-end.invariant c.in-Some.ensures line.class room line.plain.0 line.plain.1)
+    (has_read_more c.args.bytes.now c.loop-end.rest.now c.loop-end.calls.items (vec_len c.loop-end.calls) c.in-Some.end c.in-Command.call c.loop-end.invariant c.in-Some.ensures line.class room line.command_or_bad)
