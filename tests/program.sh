@@ -30,14 +30,18 @@ check 'a word too many' 2 'fault usage\n' 'put 5 50\n' --tree
 check 'a remove with two children' 0 '1 1.1 put 2 20 = new\n2 1.2 put 1 10 = new\n3 1.3 put 3 30 = new\n4 1.4 remove 2 = 20\nleft 2\n1 10\n3 30\nend\n' 'put 2 20\nput 1 10\nput 3 30\nremove 2\n'
 check 'ceil and floor' 0 '1 1.1 put 5 50 = new\n2 1.2 put 9 90 = new\n3 1.3 ceil 7 = 9 90\n4 1.4 floor 7 = 5 50\n5 1.5 ceil 10 = none\nleft 2\n5 50\n9 90\nend\n' 'put 5 50\nput 9 90\nceil 7\nfloor 7\nceil 10\n'
 check 'a word that is not UTF-8' 2 'fault usage\n' '' $'\xff'
-check 'a number too large' 3 'fault not built\n' 'put 1000000000000000000 1\n'
-check 'no line feed at the end' 3 'fault not built\n' 'get 5'
+check 'comments, blanks and carriage returns' 0 '1 1.1 put 7 1 = new\n2 1.2 get 7 = 1\nleft 1\n7 1\nend\n' '# Z\xc3\xbcrich\r\n\r\n  put\t007 1\r\nget 7'
+check 'a number too large' 3 'fault line 1 bad number\n' 'put 1000000000000000000 1\n'
+check 'the first bad line' 3 'fault line 2 unknown word\n' 'get 1\nGet 1\nput\n'
+check 'a second client' 3 'fault not built\n' 'client 2\nget 1\n'
 
 # Standard output that is full ends the run with its own status.
 if [ -w /dev/full ]; then
     printf 'put 5 50\n' | bin/pathmap >/dev/full 2>/dev/null
     if [ $? = 5 ]; then passed=$((passed + 1)); else failed=$((failed + 1)); echo 'FAILED: a full output'; fi
 fi
+# An input one byte too long is answered at once, and its rest is not waited for.
+if [ "$( (head -c 4194305 /dev/zero | tr '\0' ' '; sleep 5) | timeout 4 bin/pathmap; echo $?)" = "$(printf 'fault input too large\n6')" ]; then passed=$((passed + 1)); else failed=$((failed + 1)); echo 'FAILED: an input too large'; fi
 # Standard input that can't be read.
 bin/pathmap </ >/tmp/pathmap-read.$$ 2>/dev/null
 if [ $? = 4 ] && [ "$(cat /tmp/pathmap-read.$$)" = 'fault read' ]; then passed=$((passed + 1)); else failed=$((failed + 1)); echo 'FAILED: an input that cannot be read'; fi

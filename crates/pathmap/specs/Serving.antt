@@ -1,5 +1,5 @@
 -- How a run of the program ends: what was printed where it ended well, and why where it didn't.
-use Rattle.std.specs.Prelude.{◌≡◌, ◌≢◌, ℕ, ◌<◌, ◌≤◌, ◌⊎◌, List, length, Option, Ok, IsErr, IfSome}
+use Rattle.std.specs.Prelude.{◌≡◌, ◌≢◌, ℕ, ◌<◌, ◌≤◌, ◌⊎◌, List, length, Option, Ok, Err, IsErr, IfSome}
 use Rattle.std.specs.Io.KnownBytes.{Appends, IsAtEnd}
 use Rattle.pc_model.specs.declared.call.Entry.{Entry}
 use Rattle.pc_model.specs.Map.{Pairs}
@@ -7,6 +7,7 @@ use Rattle.pc_edge.specs.Faults.{HasRisen}
 use Rattle.pc_edge.specs.Sending.{AppendsFront}
 use Rattle.pc_text.specs.declared.fault.Fault.{Fault}
 use Rattle.pc_text.specs.declared.fault.Fault.TheVariants.{Usage, Script, Read, TooLargeInput, TooManySlots, Slots, Numbers, Memory, NotBuilt}
+use Rattle.pc_text.specs.declared.kind.ScriptKind.{ScriptKind}
 use Rattle.pc_text.specs.FaultLine.{fault_line}
 use Rattle.pc_text.specs.Printed.{printed_run}
 use Rattle.pc_text.specs.Script.{script_of}
@@ -15,12 +16,25 @@ use Rattle.pathmap.specs.declared.reading.Unread.{Unread}
 use Rattle.pathmap.specs.declared.reading.Unread.TheVariants.{Failed, TooLarge, Memory as NoMemory}
 use Rattle.pathmap.specs.Running.{IsOneHistory}
 
--- the bytes are an input that spells a script, or none
+-- the bytes are no longer than an input may be, and spell this script
 abbrev pub SpellsScript : List ℕ → ScriptValue → Type 0
 SpellsScript bytes script = (length bytes ≤ 4194304) × (script_of bytes ≡ Ok script)
 
-abbrev pub SpellsNone : List ℕ → Type 0
-SpellsNone bytes = (4194304 < length bytes) ⊎ IsErr (script_of bytes)
+-- they are too long
+abbrev pub IsTooLong : List ℕ → Type 0
+IsTooLong bytes = 4194304 < length bytes
+
+-- this line is the first bad one, for this
+abbrev pub HasBadLine : List ℕ → ℕ → ScriptKind → Type 0
+HasBadLine bytes line kind = (length bytes ≤ 4194304) × (script_of bytes ≡ Err (line, kind))
+
+-- they spell a script of more than one client
+abbrev pub SpellsMany : List ℕ → Type 0
+SpellsMany bytes = (script : ScriptValue) × SpellsScript bytes script × (1 < script.clients)
+
+-- they spell no script, or one of more than one client
+abbrev pub IsRefused : List ℕ → Type 0
+IsRefused bytes = ((length bytes ≤ 4194304) × IsErr (script_of bytes)) ⊎ SpellsMany bytes
 
 -- the input was read to its end and spells a script, of which this is one history with the pairs left
 pub record HasRunAll (input rest : Option (List ℕ)) (history : List Entry) (pairs : Pairs) : Type 0 where
@@ -55,15 +69,16 @@ status_of (Numbers counter) = 8
 status_of Memory = 9
 status_of NotBuilt = 3
 
--- why a run ends in a fault: there isn't exactly one word, the input spells no script, or the source
--- failed; want of memory needs no cause, and the other faults don't come
+-- why a run ends in a fault: there isn't exactly one word, the input is too long, it has a bad line or
+-- more than one client, or the source failed; want of memory needs no cause, and the other faults don't
+-- come
 abbrev pub IsCauseOf : ℕ → Option (List ℕ) → ℕ → ℕ → Fault → Type 0
 IsCauseOf words input faults faults' Usage = words ≢ 1
-IsCauseOf words input faults faults' NotBuilt = (words ≡ 1) × IfSome input SpellsNone
+IsCauseOf words input faults faults' NotBuilt = (words ≡ 1) × IfSome input SpellsMany
 IsCauseOf words input faults faults' Read = (words ≡ 1) × HasRisen faults faults'
 IsCauseOf words input faults faults' Memory = words ≡ 1
-IsCauseOf words input faults faults' (Script line kind) = ⊥
-IsCauseOf words input faults faults' TooLargeInput = ⊥
+IsCauseOf words input faults faults' (Script line kind) = (words ≡ 1) × IfSome input (λ bytes. HasBadLine bytes line kind)
+IsCauseOf words input faults faults' TooLargeInput = (words ≡ 1) × IfSome input IsTooLong
 IsCauseOf words input faults faults' TooManySlots = ⊥
 IsCauseOf words input faults faults' (Slots client number) = ⊥
 IsCauseOf words input faults faults' (Numbers counter) = ⊥
@@ -79,9 +94,9 @@ pub record EndsInFault (status words : ℕ) (input : Option (List ℕ)) (source_
   pub cause : IsCauseOf words input source_faults source_faults' fault
   pub line : WritesFault held held' sink_faults sink_faults' fault
 
--- where the input spells no script, the run ends for that, for a failed read or for want of memory
-abbrev pub IsRefusedInput : ℕ → Type 0
-IsRefusedInput status = (status ≡ 3) ⊎ ((status ≡ 4) ⊎ (status ≡ 9))
+-- the run ends with this status, unless a read failed or memory was wanting
+abbrev pub EndsUnlessStopped : ℕ → ℕ → Type 0
+EndsUnlessStopped wanted status = (status ≡ wanted) ⊎ ((status ≡ 4) ⊎ (status ≡ 9))
 
 -- the bytes spell a script, of which this is one history with the pairs left
 pub record RunsBytes (bytes : List ℕ) (history : List Entry) (pairs : Pairs) : Type 0 where
@@ -89,15 +104,16 @@ pub record RunsBytes (bytes : List ℕ) (history : List Entry) (pairs : Pairs) :
   pub spelled : script_of bytes ≡ Ok script
   pub one : IsOneHistory script.calls history pairs
 
--- why bytes are not run: they spell no script, or memory was wanting
+-- why bytes are not run: they have a bad line, or more than one client, or memory was wanting
 abbrev pub IsBytesFault : List ℕ → Fault → Type 0
-IsBytesFault bytes NotBuilt = IsErr (script_of bytes)
+IsBytesFault bytes (Script line kind) = script_of bytes ≡ Err (line, kind)
+IsBytesFault bytes NotBuilt = (script : ScriptValue) × (script_of bytes ≡ Ok script) × (1 < script.clients)
 IsBytesFault bytes Memory = Unit {0}
 IsBytesFault bytes _ = ⊥
 
 abbrev pub unread_fault : Unread → Fault
 unread_fault Failed = Read
-unread_fault TooLarge = NotBuilt
+unread_fault TooLarge = TooLargeInput
 unread_fault NoMemory = Memory
 
 -- status 0 where the run was printed whole, and 5 where the sink failed before

@@ -1,7 +1,7 @@
 //! The top call: it reads a script, runs it, and prints the run or the line of a fault.
 ghost use Rattle.std.specs.Prelude.{◌≡◌, ◌≢◌, ◌≤◌, length, IfSome, IfOk, IfErr, OnErr};
 ghost use Rattle.pathmap.specs.Reading.{TakesAtMost};
-ghost use Rattle.pathmap.specs.Serving.{PrintsOneHistory, PrintsFront, EndsInFault, IsCauseOf, HasRunAll, WritesFault, SpellsNone, IsRefusedInput, status_of, RunsBytes, IsBytesFault, unread_fault, PrintsOrStops};
+ghost use Rattle.pathmap.specs.Serving.{PrintsOneHistory, PrintsFront, EndsInFault, IsCauseOf, HasRunAll, WritesFault, IsTooLong, IsRefused, EndsUnlessStopped, status_of, RunsBytes, IsBytesFault, unread_fault, PrintsOrStops};
 ghost use Rattle.pathmap.specs.Running.{IsOneHistory};
 ghost use Rattle.pc_edge.specs.Faults.{HasRisen};
 ghost use Rattle.pc_text.specs.ScriptFacts.{AreFew, AreInRange};
@@ -24,9 +24,10 @@ pub struct Outcome {
 
 /// Reads a script from the source, runs it, and prints its history and the pairs that are left.
 ///
-/// Status 0: the run was printed whole. 2: there isn't exactly one word. 3: the input isn't a script
-/// of the plain form. 4: the source failed. 5: the sink failed while the run was printed. 9: memory
-/// was wanting, before the first byte. At each status but 0 and 5 the line of the fault is written.
+/// Status 0: the run was printed whole. 2: there isn't exactly one word. 3: the input spells no script,
+/// or one of more than one client. 4: the source failed. 5: the sink failed while the run was printed.
+/// 6: the input has more than 4,194,304 bytes. 9: memory was wanting, before the first byte. At each
+/// status but 0 and 5 the line of the fault is written.
 pub fn serve<R: Threads + Wait + Sync, S: Source, K: Sink, G: Gate + Sync>(
     _rt: &R,
     alloc: Global,
@@ -46,7 +47,8 @@ pub fn serve<R: Threads + Wait + Sync, S: Source, K: Sink, G: Gate + Sync>(
     ensures fault { result.status ≢ 0 → result.status ≢ 5 → EndsInFault result.status (length words.now)
         (S.left source.old) (S.faults source.old) (S.faults source.new) (K.held sink.old) (K.held sink.new) (K.faults sink.old) (K.faults sink.new) }
     ensures usage { length words.now ≢ 1 → result.status ≡ 2 }
-    ensures not_built { length words.now ≡ 1 → IfSome (S.left source.old) (λ bytes. SpellsNone bytes → IsRefusedInput result.status) }
+    ensures too_large { length words.now ≡ 1 → IfSome (S.left source.old) (λ bytes. IsTooLong bytes → EndsUnlessStopped 6 result.status) }
+    ensures refused { length words.now ≡ 1 → IfSome (S.left source.old) (λ bytes. IsRefused bytes → EndsUnlessStopped 3 result.status) }
 
     // Without exactly one word nothing is read, and else at most one byte past the limit.
     ensures unread { length words.now ≢ 1 → source.new ≡ source.old }
@@ -85,7 +87,7 @@ fn fault_of(unread: Unread) -> Fault
 {
     match unread {
         Unread::Failed => Fault::Read,
-        Unread::TooLarge => Fault::NotBuilt,
+        Unread::TooLarge => Fault::TooLargeInput,
         Unread::Memory => Fault::Memory,
     }
 }
@@ -98,9 +100,12 @@ fn run_bytes(alloc: Global, bytes: &[u8]) -> Result<Run, Fault>
 {
     let script = match read_script(alloc, bytes) {
         Ok(script) => script,
-        Err(ScriptFault::NotBuilt) => return Err(Fault::NotBuilt),
+        Err(ScriptFault::Bad { line, kind }) => return Err(Fault::Script { line, kind }),
         Err(ScriptFault::Memory) => return Err(Fault::Memory),
     };
+    if script.clients > 1 {
+        return Err(Fault::NotBuilt);
+    }
     match run_script(alloc, &script) {
         Ok(run) => Ok(run),
         Err(_) => Err(Fault::Memory),

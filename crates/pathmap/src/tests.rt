@@ -55,7 +55,7 @@ fn status_of_run<R: Threads + Wait + Sync>(
 #[test]
 fn each_input_has_its_status_and_output(rt: HostRuntime) -> Result<(), Fail> {
     let alloc = rt.alloc();
-    let rows: [(&str, u8, &str); 16] = [
+    let rows: [(&str, u8, &str); 21] = [
         ("", 0, "left 0\nend\n"),
         (
             "put 5 50\nget 5\n",
@@ -104,12 +104,27 @@ fn each_input_has_its_status_and_output(rt: HostRuntime) -> Result<(), Fail> {
             0,
             "1 1.1 put 1 1 = new\n2 1.2 remove 1 = 1\n3 1.3 put 1 2 = new\n4 1.4 remove 1 = 2\n5 1.5 put 1 3 = new\nleft 1\n1 3\nend\n",
         ),
-        ("remove 5 6\n", 3, "fault not built\n"),
-        ("get 5", 3, "fault not built\n"),
-        ("put  5 1\n", 3, "fault not built\n"),
-        ("put 1000000000000000000 1\n", 3, "fault not built\n"),
-        ("get +1\n", 3, "fault not built\n"),
-        ("# note\n", 3, "fault not built\n"),
+        // Comments, blanks, carriage returns, zeros in front, and a last line without its end.
+        (
+            "# Zürich\r\n\r\n  put\t007 1\r\nget 7",
+            0,
+            "1 1.1 put 7 1 = new\n2 1.2 get 7 = 1\nleft 1\n7 1\nend\n",
+        ),
+        ("client 1\nget 5", 0, "1 1.1 get 5 = none\nleft 0\nend\n"),
+        (
+            "put 1000000000000000000 1\n",
+            3,
+            "fault line 1 bad number\n",
+        ),
+        ("get 1\nGet 1\n", 3, "fault line 2 unknown word\n"),
+        ("put 1", 3, "fault line 1 word count\n"),
+        ("get +1\n", 3, "fault line 1 bad number\n"),
+        ("foo\0\n", 3, "fault line 1 bad byte\n"),
+        ("client 0\n", 3, "fault line 1 bad number\n"),
+        ("client 33\n", 3, "fault line 1 too many clients\n"),
+        // Scripts of more than one client are not run yet; a bad line comes first.
+        ("client 2\nget 1\n", 3, "fault not built\n"),
+        ("client 2\nget 1\nget\n", 3, "fault line 3 word count\n"),
     ];
     for (input, status, output) in rows {
         let bytes = Vec::from_slice(alloc, input.as_bytes())?;
@@ -160,13 +175,19 @@ fn a_failed_read_and_a_full_sink_end_the_run(rt: HostRuntime) -> Result<(), Fail
 }
 
 #[test]
-fn at_most_a_byte_past_the_limit_is_read(rt: HostRuntime) -> Result<(), Fail> {
+fn an_input_has_at_most_4_194_304_bytes(rt: HostRuntime) -> Result<(), Fail> {
     let alloc = rt.alloc();
-    let mut source = source_of(spaces(alloc, 4_194_305)?, 1_000_000, Vec::new(alloc));
-    let mut sink = MemorySink::with_room(alloc, 1000, 1000).expect(&rt, "ample memory");
-    assert_eq!(rt; status_of_run(&rt, alloc, &mut source, &mut sink)?, 3);
-    assert_eq!(rt; sink.held.as_slice(), b"fault not built\n".as_slice());
-    assert!(rt; source.at <= 4_194_305);
+    let rows: [(usize, u8, &str); 2] = [
+        (4_194_304, 0, "left 0\nend\n"),
+        (4_194_305, 6, "fault input too large\n"),
+    ];
+    for (length, status, output) in rows {
+        let mut source = source_of(spaces(alloc, length)?, 1_000_000, Vec::new(alloc));
+        let mut sink = MemorySink::with_room(alloc, 1000, 1000).expect(&rt, "ample memory");
+        assert_eq!(rt; status_of_run(&rt, alloc, &mut source, &mut sink)?, status);
+        assert_eq!(rt; sink.held.as_slice(), output.as_bytes());
+        assert!(rt; source.at <= 4_194_305);
+    }
     Ok(())
 }
 
@@ -180,6 +201,6 @@ fn a_script_has_at_most_60_000_commands(rt: HostRuntime) -> Result<(), Fail> {
     let mut source = source_of(gets(alloc, 60_001)?, 1_000_000, Vec::new(alloc));
     let mut sink = MemorySink::with_room(alloc, 1000, 1000).expect(&rt, "ample memory");
     assert_eq!(rt; status_of_run(&rt, alloc, &mut source, &mut sink)?, 3);
-    assert_eq!(rt; sink.held.as_slice(), b"fault not built\n".as_slice());
+    assert_eq!(rt; sink.held.as_slice(), b"fault line 60001 too many lines\n".as_slice());
     Ok(())
 }
