@@ -4,7 +4,7 @@ use Rattle.std.specs.Fmt.{decimal}
 use Rattle.pc_model.specs.declared.call.Call.{Call}
 use Rattle.pc_model.specs.declared.call.Call.TheVariants.{Put, Get, Remove, Ceil, Floor}
 use Rattle.pc_text.specs.Script.{script_of}
-use Rattle.pc_text.specs.ScriptFacts.{IsCallInRange, IsPutOrGet}
+use Rattle.pc_text.specs.ScriptFacts.{IsCallInRange}
 
 -- a command is its word and its numbers, with a space (32) between two words
 abbrev pub line_of : Call → List ℕ
@@ -19,8 +19,8 @@ abbrev pub text_of : List Call → List ℕ
 text_of [] = []
 text_of (call ∷ calls) = line_of call ++ 10 ∷ text_of calls
 
--- at most 60,000 puts and gets that are written with numbers in range are a script of these calls
+-- at most 60,000 commands that are written with numbers in range are a script of these calls
 abbrev pub ReadsBack : List Call → Type 0
 ReadsBack calls =
-    length calls ≤ 60000 → All IsCallInRange calls → All IsPutOrGet calls →
+    length calls ≤ 60000 → All IsCallInRange calls →
     script_of (text_of calls) ≡ Ok (record { clients = 1; calls = calls ∷ [] })
