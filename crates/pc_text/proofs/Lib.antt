@@ -1,6 +1,5 @@
 pub mod Lines
 pub mod NumberLemmas
-pub mod PartsLemmas
 pub mod ReadLemmas
 pub mod Readable
 pub mod Rows

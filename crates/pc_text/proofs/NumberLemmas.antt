@@ -1,24 +1,18 @@
--- Words of digits: each byte's range, and how large the number can be.
-use Rattle.std.proofs.Common.{◌≡◌, ℕ, ◌+◌, ◌-◌, ◌*◌, ◌<◌, ◌≤◌, ◌^◌, true, List, [], ◌∷◌, length, get_or, take, refl, rules, arith, length-take}
+-- The number of the digits so far.
+use Rattle.std.proofs.Common.{◌≡◌, ℕ, ◌+◌, ◌-◌, ◌*◌, ◌<◌, true, false, nat_le, List, [], ◌∷◌, length, get_or, take, None, refl, rules, arith, lit≤}
+use Rattle.std.proofs.lemmas.Bool.{and_right, lt-leb}
 use Rattle.std.proofs.lemmas.Bool.Decides.{nat_tests}
 use Rattle.std.proofs.lemmas.Int.Digits.{digits_value_more}
 use Rattle.std.proofs.lemmas.List.{take_more}
 use Rattle.std.proofs.lemmas.List.Folds.{list_all-append}
-use Rattle.std.proofs.lemmas.Str.Parse.{IsDigitsTest, numerals_by_value, digits_value_short}
+use Rattle.std.proofs.lemmas.Str.Parse.{IsDigitsTest, digits_value-take-le}
 use Rattle.std.specs.Char.{digit_value, is_ascii_digit}
 use Rattle.std.specs.List.{list_all}
 use Rattle.std.specs.Str.Parse.{digits_value}
+use Rattle.pc_text.specs.ScriptWords.{is_number, number_of}
 
 pub tells_list_all : IsDigitsTest (λ ds. list_all is_ascii_digit ds ≡ true)
 tells_list_all = search rules
-
--- the number of a word of few digits is small
-pub value_small : (ds : List ℕ) (n : ℕ) → list_all is_ascii_digit ds ≡ true → length ds ≤ n → digits_value 10 ds < 10 ^ n
-value_small ds n all few = digits_value_short (numerals_by_value (λ cs. list_all is_ascii_digit cs ≡ true) tells_list_all) ds n all few
-
--- before one of at most 18 digits the number has at most 17
-pub front_small : (ds : List ℕ) (i : ℕ) → list_all is_ascii_digit (take i ds) ≡ true → i < length ds → length ds ≤ 18 → digits_value 10 (take i ds) < 10 ^ 17
-front_small ds i digits below few = value_small (take i ds) 17 digits (omega (arith, length-take i ds))
 
 digit_value_is : (d : ℕ) → is_ascii_digit d ≡ true → digit_value d ≡ d - 48
 digit_value_is d digit = grind (arith, nat_tests)
@@ -32,3 +26,10 @@ pub value_more : (ds : List ℕ) (i value : ℕ) → i < length ds → is_ascii_
 value_more ds i value below digit is =
     let last : digit_value (get_or ds i 0) ≡ get_or ds i 0 - 48 = digit_value_is _ digit in
     omega (arith, digits_value_more 10 ds i below, last)
+
+-- a word whose first bytes are too large a number is too large a number itself, or none
+pub number_of-too_large : (word : List ℕ) (i : ℕ) → 999999999999999999 < digits_value 10 (take i word) → number_of word ≡ None
+number_of-too_large word i large =
+    let test : nat_le (digits_value 10 word) 999999999999999999 ≡ false = lt-leb _ _ (omega (arith, digits_value-take-le 10 word i (lit≤ tt))) in
+    let none : is_number word ≡ false = and_right _ _ (and_right _ _ test) in
+    rw none refl

@@ -1,69 +1,105 @@
 -- Worked rows of the definition: each one computes.
-use Rattle.std.proofs.Common.{◌≡◌, ℕ, List, [], ◌∷◌, Result, Ok, Err, refl}
+use Rattle.std.proofs.Common.{◌≡◌, ℕ, List, [], ◌∷◌, ◌++◌, Result, Ok, Err, refl}
 use Rattle.std.specs.Prelude.{codes}
 use Rattle.pc_model.specs.declared.call.Call.{Call}
 use Rattle.pc_model.specs.declared.call.Call.TheVariants.{Put, Get, Remove, Ceil, Floor}
 use Rattle.pc_text.specs.declared.kind.ScriptKind.{ScriptKind}
-use Rattle.pc_text.specs.declared.kind.ScriptKind.TheVariants.{BadByte, UnknownWord, WordCount, BadNumber}
+use Rattle.pc_text.specs.declared.kind.ScriptKind.TheVariants.{BadByte, UnknownWord, WordCount, BadNumber, TooManyClients}
 use Rattle.pc_text.specs.Script.{script_of}
 use Rattle.pc_text.specs.ScriptValue.{ScriptValue}
 
-abbrev one_client : List Call → Result ScriptValue (ℕ × ScriptKind)
-one_client calls = Ok (record { clients = 1; calls = calls ∷ [] })
+abbrev of_clients : List (List Call) → ℕ → Result ScriptValue (ℕ × ScriptKind)
+of_clients calls clients = Ok (record { clients = clients; calls = calls })
 
-put_and_get : script_of (codes "put 5 50\nget 5\n") ≡ one_client (Put 5 50 ∷ Get 5 ∷ [])
-put_and_get = refl
+abbrev of_one : List Call → Result ScriptValue (ℕ × ScriptKind)
+of_one calls = of_clients (calls ∷ []) 1
 
-empty : script_of [] ≡ one_client []
+empty : script_of [] ≡ of_one []
 empty = refl
 
-last_numbers : script_of (codes "put 0 0\nput 999999999999999999 999999999999999999\n") ≡ one_client (Put 0 0 ∷ Put 999999999999999999 999999999999999999 ∷ [])
+-- ---- lines and words
+
+-- a comment with bytes past 126, a blank line, spaces and a tab, and no line feed at the end
+comment_and_blanks : script_of (codes "# Z" ++ 195 ∷ 188 ∷ codes "rich\r\n\r\n  put\t007 1\r\nget 7") ≡ of_one (Put 7 1 ∷ Get 7 ∷ [])
+comment_and_blanks = refl
+
+five_commands : script_of (codes "put 5 50\nget 5\nremove 5\nceil 5\nfloor 5\n") ≡ of_one (Put 5 50 ∷ Get 5 ∷ Remove 5 ∷ Ceil 5 ∷ Floor 5 ∷ [])
+five_commands = refl
+
+blanks_around : script_of (codes " \t get \t 7 \t \n") ≡ of_one (Get 7 ∷ [])
+blanks_around = refl
+
+blank_lines : script_of (codes "\n \n\t\n\n") ≡ of_one []
+blank_lines = refl
+
+comment_behind_blanks : script_of (codes " \t#" ++ 0 ∷ 255 ∷ codes "\r\r\nget 7\n") ≡ of_one (Get 7 ∷ [])
+comment_behind_blanks = refl
+
+no_comment_behind_a_command : script_of (codes "get 7 # seven\n") ≡ Err (1, WordCount)
+no_comment_behind_a_command = refl
+
+return_at_the_end : script_of (codes "get 7\r") ≡ of_one (Get 7 ∷ [])
+return_at_the_end = refl
+
+lone_return : script_of (codes "\r") ≡ of_one []
+lone_return = refl
+
+two_returns : script_of (codes "\r\r\n") ≡ Err (1, BadByte)
+two_returns = refl
+
+return_in_the_middle : script_of (codes "get\r 7\n") ≡ Err (1, BadByte)
+return_in_the_middle = refl
+
+-- ---- clients
+
+clients_in_turn : script_of (codes "get 1\nclient 3\nget 2\nclient 1\nget 3\nclient 3\nget 4\n") ≡ of_clients ((Get 1 ∷ Get 3 ∷ []) ∷ [] ∷ (Get 2 ∷ Get 4 ∷ []) ∷ []) 3
+clients_in_turn = refl
+
+fifth_client_alone : script_of (codes "client 5") ≡ of_clients ([] ∷ [] ∷ [] ∷ [] ∷ [] ∷ []) 5
+fifth_client_alone = refl
+
+client_named_at_length : script_of (codes "client 0000000000000000000000000000002\nget 1") ≡ of_clients ([] ∷ (Get 1 ∷ []) ∷ []) 2
+client_named_at_length = refl
+
+-- ---- numbers
+
+last_numbers : script_of (codes "put 0 0\nput 999999999999999999 999999999999999999\n") ≡ of_one (Put 0 0 ∷ Put 999999999999999999 999999999999999999 ∷ [])
 last_numbers = refl
 
-leading_zeros : script_of (codes "get 007\n") ≡ one_client (Get 7 ∷ [])
-leading_zeros = refl
+thirty_digits : script_of (codes "get 000000000000999999999999999999\n") ≡ of_one (Get 999999999999999999 ∷ [])
+thirty_digits = refl
 
-all_commands : script_of (codes "put 5 50\nget 5\nremove 6\nceil 7\nfloor 8\n") ≡ one_client (Put 5 50 ∷ Get 5 ∷ Remove 6 ∷ Ceil 7 ∷ Floor 8 ∷ [])
-all_commands = refl
-
-no_such_command : script_of (codes "delete 5\n") ≡ Err (1, UnknownWord)
-no_such_command = refl
-
-a_lone_word : script_of (codes "remove\n") ≡ Err (1, WordCount)
-a_lone_word = refl
-
-a_ceil_of_two : script_of (codes "ceil 5 6\n") ≡ Err (1, WordCount)
-a_ceil_of_two = refl
-
-a_floor_of_none : script_of (codes "floor x\n") ≡ Err (1, BadNumber)
-a_floor_of_none = refl
-
-no_last_line_feed : script_of (codes "get 5") ≡ Err (1, BadByte)
-no_last_line_feed = refl
-
-two_spaces : script_of (codes "put  5 1\n") ≡ Err (1, WordCount)
-two_spaces = refl
-
-nineteen_digits : script_of (codes "put 1000000000000000000 1\n") ≡ Err (1, BadNumber)
-nineteen_digits = refl
+one_too_large : script_of (codes "put 1000000000000000000 1\n") ≡ Err (1, BadNumber)
+one_too_large = refl
 
 a_sign : script_of (codes "get +1\n") ≡ Err (1, BadNumber)
 a_sign = refl
 
-upper_case : script_of (codes "Get 1\n") ≡ Err (1, UnknownWord)
+-- ---- faults
+
+upper_case : script_of (codes "get 1\nGet 1\n") ≡ Err (2, UnknownWord)
 upper_case = refl
 
-no_number : script_of (codes "get \n") ≡ Err (1, BadNumber)
-no_number = refl
+short_word : script_of (codes "rem 1\n") ≡ Err (1, UnknownWord)
+short_word = refl
 
-a_last_space : script_of (codes "get 1 \n") ≡ Err (1, WordCount)
-a_last_space = refl
+no_value : script_of (codes "put 1") ≡ Err (1, WordCount)
+no_value = refl
 
-an_empty_line : script_of (codes "\n") ≡ Err (1, UnknownWord)
-an_empty_line = refl
+bad_byte_first : script_of (codes "foo" ++ 0 ∷ []) ≡ Err (1, BadByte)
+bad_byte_first = refl
 
-a_carriage_return : script_of (codes "get 1\r\n") ≡ Err (1, BadNumber)
-a_carriage_return = refl
+client_nought : script_of (codes "client 0") ≡ Err (1, BadNumber)
+client_nought = refl
+
+client_nought_and_more : script_of (codes "client 0 0") ≡ Err (1, WordCount)
+client_nought_and_more = refl
+
+client_past_the_last : script_of (codes "client 33") ≡ Err (1, TooManyClients)
+client_past_the_last = refl
+
+client_past_all_numbers : script_of (codes "client 1000000000000000000") ≡ Err (1, BadNumber)
+client_past_all_numbers = refl
 
 the_second_line : script_of (codes "get 1\nput 1\nget\n") ≡ Err (2, WordCount)
 the_second_line = refl

@@ -1,9 +1,10 @@
 pub mod FaultLine
 pub mod FixesHistory
-pub mod Parts
+pub mod Lines
 pub mod Printed
 pub mod Script
 pub mod ScriptFacts
+pub mod ScriptLine
 pub mod ScriptText
 pub mod ScriptValue
 pub mod ScriptWords

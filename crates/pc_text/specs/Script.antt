@@ -4,27 +4,16 @@ use Rattle.std.specs.Prelude.{ℕ, ◌+◌, ◌==◌, nat_lt, max, if◌then◌e
 use Rattle.std.specs.List.{range_with_len}
 use Rattle.pc_model.specs.declared.call.Call.{Call}
 use Rattle.pc_text.specs.declared.kind.ScriptKind.{ScriptKind}
-use Rattle.pc_text.specs.declared.kind.ScriptKind.TheVariants.{BadByte, TooManyLines}
+use Rattle.pc_text.specs.declared.kind.ScriptKind.TheVariants.{TooManyLines}
 use Rattle.pc_text.specs.declared.line.LineClass.{LineClass}
 use Rattle.pc_text.specs.declared.line.LineClass.TheVariants.{Skip, Turn, Command, Bad}
-use Rattle.pc_text.specs.Parts.{parts_of}
+use Rattle.pc_text.specs.Lines.{lines_of}
+use Rattle.pc_text.specs.ScriptLine.{class_of}
 use Rattle.pc_text.specs.ScriptValue.{ScriptValue}
-use Rattle.pc_text.specs.ScriptWords.{class_of}
-
--- after the last line feed there may stand nothing more
-abbrev pub class_of_rest : List ℕ → LineClass
-class_of_rest [] = Skip
-class_of_rest (byte ∷ bytes) = Bad BadByte
-
--- the parts between line feeds: the last one is what stands after the last line feed
-abbrev pub classes_of_parts : List (List ℕ) → List LineClass
-classes_of_parts [] = []
-classes_of_parts (rest ∷ []) = class_of_rest rest ∷ []
-classes_of_parts (line ∷ next ∷ parts) = class_of line ∷ classes_of_parts (next ∷ parts)
 
 -- the lines, each with what it is
 abbrev pub classes_of : List ℕ → List LineClass
-classes_of bytes = classes_of_parts (parts_of 10 bytes)
+classes_of bytes = map class_of (lines_of bytes)
 
 -- the first bad line with what is wrong, where the lines are counted on from `line` and `before` commands
 -- stood before it: the 60,001st command is bad

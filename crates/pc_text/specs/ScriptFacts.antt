@@ -1,9 +1,14 @@
--- What is true of every script that is read.
-use Rattle.std.specs.Prelude.{◌≤◌, ⊤, All, List, length}
+-- What is true of every script that is read, and of a fault.
+use Rattle.std.specs.Prelude.{◌≡◌, ℕ, ◌≤◌, ⊤, All, List, length, Err}
+use Rattle.std.specs.Int.{IsInRange}
+use Rattle.std.specs.List.{sum_by}
 use Rattle.pc_model.specs.declared.call.Call.{Call}
 use Rattle.pc_model.specs.declared.call.Call.TheVariants.{Put, Get, Remove, Ceil, Floor}
 use Rattle.pc_text.specs.declared.line.LineClass.{LineClass}
-use Rattle.pc_text.specs.declared.line.LineClass.TheVariants.{Skip, Turn, Command, Bad}
+use Rattle.pc_text.specs.declared.line.LineClass.TheVariants.{Skip, Turn, Command, Bad as BadLine}
+use Rattle.pc_text.specs.declared.script.ScriptFault.{ScriptFault}
+use Rattle.pc_text.specs.declared.script.ScriptFault.TheVariants.{Bad, Memory}
+use Rattle.pc_text.specs.Script.{script_of}
 
 -- the numbers of a call are at most 999999999999999999
 abbrev pub IsCallInRange : Call → Type 0
@@ -13,17 +18,22 @@ IsCallInRange (Remove key) = key ≤ 999999999999999999
 IsCallInRange (Ceil key) = key ≤ 999999999999999999
 IsCallInRange (Floor key) = key ≤ 999999999999999999
 
--- each list has at most 60,000 calls
+-- the lists have at most 60,000 calls together
 abbrev pub AreFew : List (List Call) → Type 0
-AreFew lists = All (λ calls. length calls ≤ 60000) lists
+AreFew lists = sum_by (λ calls. length calls) lists ≤ 60000
 
 -- every call's numbers are in range
 abbrev pub AreInRange : List (List Call) → Type 0
 AreInRange lists = All (All IsCallInRange) lists
 
--- a line is a command with numbers in range, or it is bad
-abbrev pub IsCommandOrBad : LineClass → Type 0
-IsCommandOrBad Skip = ⊥
-IsCommandOrBad (Turn client) = ⊥
-IsCommandOrBad (Command call) = IsCallInRange call
-IsCommandOrBad (Bad kind) = ⊤
+-- a turn is of one of 32 clients, and a command has numbers in range
+abbrev pub IsLineInRange : LineClass → Type 0
+IsLineInRange Skip = ⊤
+IsLineInRange (Turn client) = IsInRange 1 32 client
+IsLineInRange (Command call) = IsCallInRange call
+IsLineInRange (BadLine kind) = ⊤
+
+-- a fault names the first bad line with what is wrong; memory may be wanting whatever the bytes are
+abbrev pub IsFaultOf : List ℕ → ScriptFault → Type 0
+IsFaultOf bytes (Bad line kind) = script_of bytes ≡ Err (line, kind)
+IsFaultOf bytes Memory = ⊤

@@ -11,7 +11,7 @@ pub fn empty_input_gives_empty_script()
     ensures { script_of [] ≡ Ok (record { clients = 1; calls = [] ∷ [] }) }
 {}
 
-/// Commands that are written a line each are the script of these calls.
+/// Puts and gets that are written a line each are the script of these calls.
 pub fn written_commands_read_back()
     ensures { (calls : List Call) → ReadsBack calls }
 {}

@@ -3,16 +3,17 @@
 //! sink through a chunk of some KiB, so printing takes no memory.
 #![tactic(auto)]
 
+mod cut;
 mod fault;
 mod kind;
 mod laws;
 mod line;
 mod number;
-mod parts;
 mod pieces;
 mod print;
 mod read;
 mod script;
+mod words;
 
 pub use fault::{Fault, print_fault};
 pub use kind::ScriptKind;

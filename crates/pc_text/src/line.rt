@@ -1,17 +1,30 @@
 //! The lines of a script: what each one is, by its words.
-ghost use Rattle.std.specs.Prelude.{◌≡◌, ◌≤◌, [], ◌∷◌};
-ghost use Rattle.pc_text.specs.ScriptFacts.{IsCallInRange, IsCommandOrBad};
-ghost use Rattle.pc_text.specs.ScriptWords.{call_at, class_of, class_of_words, key_command_of, key_of, put_of, words_of};
+ghost use Rattle.std.specs.Prelude.{◌≡◌, ◌≢◌, ◌≤◌, ℕ, List, [], ◌∷◌, length, Some};
+ghost use Rattle.std.specs.List.{list_all};
+ghost use Rattle.pc_text.specs.ScriptFacts.{IsLineInRange};
+ghost use Rattle.pc_text.specs.ScriptLine.{class_after, class_of, is_plain};
+ghost use Rattle.pc_text.specs.ScriptWords.{keyword_of, number_of, words_of};
 
 use crate::kind::ScriptKind;
 use crate::number::read_number;
-use crate::parts::{after_cut, first_part_end};
+use crate::words::{first_word, lone_word};
 use pc_model::Call;
+
+/// The words that begin a line.
+#[derive(Clone, Copy, Debug, PartialEq, Eq)]
+pub enum Keyword {
+    Client,
+    Put,
+    Get,
+    Remove,
+    Ceil,
+    Floor,
+}
 
 /// What a line of a script is.
 #[derive(Clone, Copy, Debug, PartialEq, Eq)]
 pub enum LineClass {
-    /// There is nothing in it.
+    /// There is nothing in it, or a comment.
     Skip,
     /// The commands that follow are this client's.
     Turn(u32),
@@ -21,113 +34,103 @@ pub enum LineClass {
     Bad(ScriptKind),
 }
 
-/// A command that takes a key alone.
-#[derive(Clone, Copy, Debug, PartialEq, Eq)]
-pub enum KeyCommand {
-    /// `get KEY`.
-    Get,
-    /// `remove KEY`.
-    Remove,
-    /// `ceil KEY`.
-    Ceil,
-    /// `floor KEY`.
-    Floor,
-}
+/// The most clients that a script names.
+pub const MOST_CLIENTS: u32 = 32;
 
-impl KeyCommand {
-    // The call at a key.
-    fn at(self, key: u64) -> Call
-        ensures call { result ≡ call_at self key }
-        ensures in_range { key ≤ 999999999999999999 → IsCallInRange result }
-    {
-        match self {
-            KeyCommand::Get => Call::Get { key },
-            KeyCommand::Remove => Call::Remove { key },
-            KeyCommand::Ceil => Call::Ceil { key },
-            KeyCommand::Floor => Call::Floor { key },
-        }
-    }
-}
-
-/// What a line is, without the line feed that ends it.
+/// What a line is, without its end.
 pub fn read_line(line: &[u8]) -> LineClass
     ensures class { result ≡ class_of line.now }
-    ensures command_or_bad { IsCommandOrBad result }
+    ensures in_range { IsLineInRange result }
 {
-    match first_part_end(line, b' ') {
-        Some(end) => read_command(&line[..end], after_cut(line, end)),
-        None => read_lone_word(line),
+    match first_word(line) {
+        Some((word, rest)) => {
+            if word[0] == b'#' {
+                LineClass::Skip
+            } else if is_plain_text(line) {
+                read_words(word, rest)
+            } else {
+                LineClass::Bad(ScriptKind::BadByte)
+            }
+        }
+        None => LineClass::Skip,
     }
 }
 
-// A line of one word: each command takes more.
-fn read_lone_word(word: &[u8]) -> LineClass
-    ensures class { result ≡ class_of_words (word.now ∷ []) }
-    ensures command_or_bad { IsCommandOrBad result }
+// Whether there are tabs and bytes from 32 to 126 alone.
+fn is_plain_text(line: &[u8]) -> bool
+    ensures { result ≡ list_all is_plain line.now }
 {
-    if word == b"put".as_slice() || read_key_command(word).is_some() {
-        LineClass::Bad(ScriptKind::WordCount)
-    } else {
-        LineClass::Bad(ScriptKind::UnknownWord)
+    for byte in line {
+        if !is_plain_byte(*byte) {
+            return false;
+        }
+    }
+    true
+}
+
+fn is_plain_byte(byte: u8) -> bool
+    ensures { result ≡ is_plain byte }
+{
+    byte == b'\t' || (byte >= 32 && byte <= 126)
+}
+
+// A line of plain bytes, by its first word and what stands after it.
+fn read_words(word: &[u8], rest: &[u8]) -> LineClass
+    ensures class { result ≡ class_after (keyword_of word.now) (words_of rest.now) }
+    ensures in_range { IsLineInRange result }
+{
+    match read_keyword(word) {
+        Some(Keyword::Put) => read_put(rest),
+        Some(keyword) => read_single(keyword, rest),
+        None => LineClass::Bad(ScriptKind::UnknownWord),
     }
 }
 
-// A line of its first word, and the other words.
-fn read_command(word: &[u8], words: &[u8]) -> LineClass
-    ensures class { result ≡ class_of_words (word.now ∷ words_of words.now) }
-    ensures command_or_bad { IsCommandOrBad result }
+fn read_keyword(word: &[u8]) -> Option<Keyword>
+    ensures { result ≡ keyword_of word.now }
 {
-    if word == b"put".as_slice() {
-        read_put(words)
-    } else if let Some(command) = read_key_command(word) {
-        read_key(command, words)
-    } else {
-        LineClass::Bad(ScriptKind::UnknownWord)
-    }
-}
-
-// The command that a word names, if it is one that takes a key alone.
-fn read_key_command(word: &[u8]) -> Option<KeyCommand>
-    ensures { result ≡ key_command_of word.now }
-{
-    if word == b"get".as_slice() {
-        Some(KeyCommand::Get)
+    if word == b"client".as_slice() {
+        Some(Keyword::Client)
+    } else if word == b"put".as_slice() {
+        Some(Keyword::Put)
+    } else if word == b"get".as_slice() {
+        Some(Keyword::Get)
     } else if word == b"remove".as_slice() {
-        Some(KeyCommand::Remove)
+        Some(Keyword::Remove)
     } else if word == b"ceil".as_slice() {
-        Some(KeyCommand::Ceil)
+        Some(Keyword::Ceil)
     } else if word == b"floor".as_slice() {
-        Some(KeyCommand::Floor)
+        Some(Keyword::Floor)
     } else {
         None
     }
 }
 
 // What follows the word `put`.
-fn read_put(words: &[u8]) -> LineClass
-    ensures class { result ≡ put_of (words_of words.now) }
-    ensures command_or_bad { IsCommandOrBad result }
+fn read_put(rest: &[u8]) -> LineClass
+    ensures class { result ≡ class_after (Some Keyword.Put) (words_of rest.now) }
+    ensures in_range { IsLineInRange result }
 {
-    match first_part_end(words, b' ') {
-        Some(end) => read_pair(&words[..end], after_cut(words, end)),
+    match first_word(rest) {
+        Some((key, rest)) => read_pair(key, rest),
         None => LineClass::Bad(ScriptKind::WordCount),
     }
 }
 
-// The key of a put, and the words behind it.
-fn read_pair(key: &[u8], words: &[u8]) -> LineClass
-    ensures class { result ≡ put_of (key.now ∷ words_of words.now) }
-    ensures command_or_bad { IsCommandOrBad result }
+// The key of a put, and what follows it.
+fn read_pair(key: &[u8], rest: &[u8]) -> LineClass
+    ensures class { result ≡ class_after (Some Keyword.Put) (key.now ∷ words_of rest.now) }
+    ensures in_range { IsLineInRange result }
 {
-    match first_part_end(words, b' ') {
-        Some(_) => LineClass::Bad(ScriptKind::WordCount),
-        None => put_of_numbers(key, words),
+    match lone_word(rest) {
+        Some(value) => put_of(key, value),
+        None => LineClass::Bad(ScriptKind::WordCount),
     }
 }
 
-fn put_of_numbers(key: &[u8], value: &[u8]) -> LineClass
-    ensures class { result ≡ put_of (key.now ∷ value.now ∷ []) }
-    ensures command_or_bad { IsCommandOrBad result }
+fn put_of(key: &[u8], value: &[u8]) -> LineClass
+    ensures class { result ≡ class_after (Some Keyword.Put) (key.now ∷ value.now ∷ []) }
+    ensures in_range { IsLineInRange result }
 {
     match (read_number(key), read_number(value)) {
         (Some(key), Some(value)) => LineClass::Command(Call::Put { key, value }),
@@ -135,23 +138,55 @@ fn put_of_numbers(key: &[u8], value: &[u8]) -> LineClass
     }
 }
 
-// What follows the word of a command that takes a key alone.
-fn read_key(command: KeyCommand, words: &[u8]) -> LineClass
-    ensures class { result ≡ key_of (Some command) (words_of words.now) }
-    ensures command_or_bad { IsCommandOrBad result }
+// What follows a word that takes one number.
+fn read_single(keyword: Keyword, rest: &[u8]) -> LineClass
+    requires { keyword ≢ Keyword.Put }
+    ensures class { result ≡ class_after (Some keyword) (words_of rest.now) }
+    ensures in_range { IsLineInRange result }
 {
-    match first_part_end(words, b' ') {
-        Some(_) => LineClass::Bad(ScriptKind::WordCount),
-        None => key_of_number(command, words),
+    match lone_word(rest) {
+        Some(word) => single_of(keyword, word),
+        None => LineClass::Bad(ScriptKind::WordCount),
     }
 }
 
-fn key_of_number(command: KeyCommand, key: &[u8]) -> LineClass
-    ensures class { result ≡ key_of (Some command) (key.now ∷ []) }
-    ensures command_or_bad { IsCommandOrBad result }
+fn single_of(keyword: Keyword, word: &[u8]) -> LineClass
+    requires { keyword ≢ Keyword.Put }
+    ensures class { result ≡ class_after (Some keyword) (word.now ∷ []) }
+    ensures in_range { IsLineInRange result }
 {
-    match read_number(key) {
-        Some(key) => LineClass::Command(command.at(key)),
+    match read_number(word) {
+        Some(number) => class_of_number(keyword, number),
         None => LineClass::Bad(ScriptKind::BadNumber),
+    }
+}
+
+// The line of a word and its one number, however this is written.
+fn class_of_number(keyword: Keyword, number: u64) -> LineClass
+    requires single { keyword ≢ Keyword.Put }
+    requires in_range { number ≤ 999999999999999999 }
+    ensures class { (word : List ℕ) → number_of word ≡ Some number → result ≡ class_after (Some keyword) (word ∷ []) }
+    ensures in_range { IsLineInRange result }
+{
+    match keyword {
+        Keyword::Client => class_of_client(number),
+        Keyword::Put => unreachable!(),
+        Keyword::Get => LineClass::Command(Call::Get { key: number }),
+        Keyword::Remove => LineClass::Command(Call::Remove { key: number }),
+        Keyword::Ceil => LineClass::Command(Call::Ceil { key: number }),
+        Keyword::Floor => LineClass::Command(Call::Floor { key: number }),
+    }
+}
+
+fn class_of_client(client: u64) -> LineClass
+    ensures class { (word : List ℕ) → number_of word ≡ Some client → result ≡ class_after (Some Keyword.Client) (word ∷ []) }
+    ensures in_range { IsLineInRange result }
+{
+    if client == 0 {
+        LineClass::Bad(ScriptKind::BadNumber)
+    } else if client > u64::from(MOST_CLIENTS) {
+        LineClass::Bad(ScriptKind::TooManyClients)
+    } else {
+        LineClass::Turn(client as u32)
     }
 }

@@ -1,64 +1,90 @@
 //! Reading a script from its bytes, in one pass.
-ghost use Rattle.std.specs.Prelude.{◌≡◌, ◌≤◌, [], ◌∷◌, length, IfOk, All, IsErr, vec_len};
+ghost use Rattle.std.specs.Prelude.{◌≡◌, ◌+◌, ◌-◌, ◌≤◌, [], ◌∷◌, ◌++◌, length, map, slice_index_or, slice_set, IfOk, IfErr, Ok, vec_len};
+ghost use Rattle.std.specs.Int.{IsInRange};
+ghost use Rattle.std.specs.List.{All};
 ghost use Rattle.pc_text.specs.Script.{script_of};
-ghost use Rattle.pc_text.specs.ScriptFacts.{AreFew, AreInRange, IsCallInRange};
+ghost use Rattle.pc_text.specs.ScriptFacts.{AreFew, AreInRange, IsFaultOf};
 
-use crate::line::{LineClass, read_line};
-use crate::parts::{after_cut, first_part_end};
+use crate::kind::ScriptKind;
+use crate::line::{LineClass, MOST_CLIENTS, read_line};
+use crate::cut::{after_line, line_len, without_return};
 use crate::script::{Script, ScriptFault};
 use pc_model::Call;
-use std::alloc::Global;
+use std::alloc::{AllocError, Global};
 
 /// The most commands that a script has.
 const MOST_COMMANDS: usize = 60_000;
 
-/// Reads a script: exactly where the bytes spell one it is the answer, unless memory is wanting.
-/// Every line is `put KEY VALUE`, `get KEY`, `remove KEY`, `ceil KEY` or `floor KEY` and a line feed,
-/// with single spaces and numbers of 1 to 18 digits. There are at most 60,000 lines. The commands are
-/// all of one client.
+/// Reads a script: exactly where the bytes spell one it is the answer, and else the first bad line with
+/// what is wrong, unless memory is wanting.
+///
+/// A line is `client C`, `put K V`, `get K`, `remove K`, `ceil K` or `floor K`, with blanks between
+/// words and around them. Lines without words and comments, which begin with `#`, are skipped. There
+/// are at most 32 clients, and at most 60,000 commands together. Before any `client` line the client is 1.
 pub fn read_script(alloc: Global, bytes: &[u8]) -> Result<Script, ScriptFault>
     requires { length bytes.now ≤ 4194304 }
     ensures script { IfOk result (λ script. script_of bytes.now ≡ Ok script) }
-    ensures not_built { result ≡ Err ScriptFault.NotBuilt → IsErr (script_of bytes.now) }
-    ensures one_client { IfOk result (λ script. script.clients ≡ 1) }
-    ensures one_list { IfOk result (λ script. length script.calls ≡ 1) }
+    ensures bad { IfErr result (IsFaultOf bytes.now) }
+    ensures some_clients { IfOk result (λ script. IsInRange 1 32 script.clients) }
+    ensures list_each { IfOk result (λ script. length script.calls ≡ script.clients) }
     ensures few { IfOk result (λ script. AreFew script.calls) }
     ensures in_range { IfOk result (λ script. AreInRange script.calls) }
 {
-    let calls = read_calls(alloc, bytes)?;
-    let mut lists = Vec::new(alloc);
-    lists.push(calls)?;
+    let mut lists = empty_lists(alloc)?;
+    let mut rest = bytes;
+    let mut line = 0;
+    let mut turn = 1;
+    let mut clients = 1;
+    let mut commands = 0;
+    while rest.len() > 0 {
+        let len = line_len(rest);
+        let class = read_line(without_return(&rest[..len]));
+        rest = after_line(rest, len);
+        line += 1;
+        match class {
+            LineClass::Skip => {}
+            LineClass::Turn(client) => {
+                turn = client;
+                clients = client.max(clients);
+            }
+            LineClass::Command(call) => {
+                if commands == MOST_COMMANDS {
+                    let kind = ScriptKind::TooManyLines;
+                    return Err(ScriptFault::Bad { line, kind });
+                }
+                add_call(&mut lists, turn, call)?;
+                commands += 1;
+            }
+            LineClass::Bad(kind) => return Err(ScriptFault::Bad { line, kind }),
+        }
+    }
+    lists.truncate(clients as usize);
     Ok(Script {
-        clients: 1,
+        clients,
         calls: lists,
     })
 }
 
-// The commands of the lines, in their order.
-fn read_calls(alloc: Global, bytes: &[u8]) -> Result<Vec<Call>, ScriptFault>
-    ensures script { IfOk result
-        (λ calls. script_of bytes.now ≡ Ok (record { clients = 1; calls = calls.items ∷ [] })) }
-    ensures not_built { result ≡ Err ScriptFault.NotBuilt → IsErr (script_of bytes.now) }
-    ensures few { IfOk result (λ calls. vec_len calls ≤ 60000) }
-    ensures in_range { IfOk result (λ calls. All IsCallInRange calls.items) }
+// A list for each client that there may be.
+fn empty_lists(alloc: Global) -> Result<Vec<Vec<Call>>, AllocError>
+    ensures lists { IfOk result (λ lists. All (λ list. list.items ≡ []) lists.items) }
+    ensures many { IfOk result (λ lists. vec_len lists ≡ 32) }
 {
-    let mut calls = Vec::new(alloc);
-    let mut rest = bytes;
-    while let Some(end) = first_part_end(rest, b'\n') {
-        match read_line(&rest[..end]) {
-            LineClass::Command(call) => {
-                if calls.len() == MOST_COMMANDS {
-                    return Err(ScriptFault::NotBuilt);
-                }
-                calls.push(call)?;
-            }
-            LineClass::Bad(_) => return Err(ScriptFault::NotBuilt),
-            LineClass::Skip | LineClass::Turn(_) => unreachable!(),
-        }
-        rest = after_cut(rest, end);
+    let mut lists = Vec::new(alloc);
+    for _ in 0..MOST_CLIENTS {
+        lists.push(Vec::new(alloc))?;
     }
-    if rest.len() > 0 {
-        return Err(ScriptFault::NotBuilt);
-    }
-    Ok(calls)
+    Ok(lists)
+}
+
+// Puts a call behind those of its client.
+fn add_call(lists: &mut Vec<Vec<Call>>, client: u32, call: Call) -> Result<(), AllocError>
+    requires inside { IsInRange 1 (vec_len lists.old) client }
+    ensures { IfOk result (λ _. map (λ list. list.items) lists.new.items ≡
+        slice_set (map (λ list. list.items) lists.old.items) (client - 1)
+        (slice_index_or (map (λ list. list.items) lists.old.items) (client - 1) [] ++ call ∷ [])) }
+{
+    let list = &mut lists[client as usize - 1];
+    list.push(call)?;
+    Ok(())
 }

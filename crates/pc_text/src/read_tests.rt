@@ -16,23 +16,9 @@ const LAST_NUMBERS: &[Call] = &[
 
 const GET_SEVEN: &[Call] = &[Call::Get { key: 7 }];
 
-const REMOVE_FIVE: &[Call] = &[Call::Remove { key: 5 }];
-
-const CEIL_AND_FLOOR: &[Call] = &[Call::Ceil { key: 7 }, Call::Floor { key: 8 }];
-
-const LAST_KEYS: &[Call] = &[
-    Call::Remove { key: 0 },
-    Call::Ceil {
-        key: 999_999_999_999_999_999,
-    },
-    Call::Floor {
-        key: 999_999_999_999_999_999,
-    },
-];
-
 #[test]
 fn rows(rt: HostRuntime) -> Result<(), Fail> {
-    let rows: [(&str, Option<&[Call]>); 25] = [
+    let rows: [(&str, Option<&[Call]>); 14] = [
         ("", Some(&[])),
         ("put 5 50\nget 5\n", Some(PUT_AND_GET)),
         (
@@ -40,21 +26,7 @@ fn rows(rt: HostRuntime) -> Result<(), Fail> {
             Some(LAST_NUMBERS),
         ),
         ("get 007\n", Some(GET_SEVEN)),
-        ("remove 5\n", Some(REMOVE_FIVE)),
-        ("ceil 7\nfloor 8\n", Some(CEIL_AND_FLOOR)),
-        (
-            "remove 0\nceil 999999999999999999\nfloor 999999999999999999\n",
-            Some(LAST_KEYS),
-        ),
-        ("remove\n", None),
-        ("remove 5", None),
-        ("Remove 5\n", None),
-        ("delete 5\n", None),
-        ("ceil 5 6\n", None),
-        ("ceil 1000000000000000000\n", None),
-        ("ceiling 5\n", None),
-        ("floor x\n", None),
-        ("floor  5\n", None),
+        ("remove 5\n", None),
         ("get 5", None),
         ("put  5 1\n", None),
         ("put 1000000000000000000 1\n", None),

@@ -1,7 +1,9 @@
 //! A script as it was read, and why there may be none.
+use crate::kind::ScriptKind;
 use pc_model::Call;
-use std::alloc::AllocFailed;
+use std::alloc::{AllocError, AllocFailed};
 use std::marker::Model;
+use thiserror::Error;
 
 /// The commands of some clients. The first list of `calls` is that of client 1.
 #[derive(Drop)]
@@ -22,11 +24,13 @@ impl Model for Script {
 }
 
 /// Why there is no script.
-#[derive(Clone, Copy, Debug, PartialEq, Eq)]
+#[derive(Clone, Copy, Debug, PartialEq, Eq, Error)]
 pub enum ScriptFault {
-    /// The bytes haven't the form of a script.
-    NotBuilt,
+    /// The first line that is bad, counted from 1, and what is wrong with it.
+    #[error("line {line}: {kind:?}")]
+    Bad { line: u32, kind: ScriptKind },
     /// Memory was wanted, and there was none.
+    #[error("no memory")]
     Memory,
 }
 
@@ -37,6 +41,17 @@ impl<T: Drop> From<AllocFailed<T>> for ScriptFault {
     ghost from_gives = { λ _ fault. fault ≡ Memory };
 
     fn from(_failed: AllocFailed<T>) -> ScriptFault {
+        ScriptFault::Memory
+    }
+}
+
+impl From<AllocError> for ScriptFault {
+    ghost use Rattle.std.specs.Prelude.{◌≡◌};
+    ghost use Rattle.pc_text.specs.declared.script.ScriptFault.TheVariants.{Memory};
+
+    ghost from_gives = { λ _ fault. fault ≡ Memory };
+
+    fn from(_failed: AllocError) -> ScriptFault {
         ScriptFault::Memory
     }
 }

@@ -1,0 +1,7 @@
+-- Blanks alone were met.
+use Rattle.std.proofs.Common.{◌≡◌, ℕ, ◌<◌, true, get_or}
+use Rattle.pc_text.specs.ScriptWords.{is_blank}
+use Rattle.pc_text.proofs.words.blanks_len.Given as goal
+
+abbrev pub invariant-loop-i : goal.invariant-loop-i
+invariant-loop-i l = (k : ℕ) → k < l.i → is_blank (get_or l.bytes k 0) ≡ true

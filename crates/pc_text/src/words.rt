@@ -1,0 +1,66 @@
+//! The words of a line, which stand between blanks.
+ghost use Rattle.std.specs.Prelude.{◌≡◌, ◌≢◌, ◌<◌, ◌≤◌, [], ◌∷◌, length, MatchOption};
+ghost use Rattle.std.specs.List.{position_or_len, prefix_len};
+ghost use Rattle.pc_text.specs.ScriptWords.{is_blank, words_of};
+
+/// The first word of a line, and what stands after it.
+pub fn first_word(line: &[u8]) -> Option<(&[u8], &[u8])>
+    ensures words { MatchOption result (words_of line.now ≡ []) (λ cut. words_of line.now ≡ cut.0.now ∷ words_of cut.1.now) }
+    ensures some_bytes { MatchOption result (words_of line.now ≡ []) (λ cut. 0 < length cut.0.now) }
+{
+    let start = blanks_len(line);
+    if start == line.len() {
+        return None;
+    }
+    let text = &line[start..];
+    let end = word_len(text);
+    Some((&text[..end], &text[end..]))
+}
+
+/// The word of a line of one word.
+pub fn lone_word(line: &[u8]) -> Option<&[u8]>
+    ensures { MatchOption result (length (words_of line.now) ≢ 1) (λ word. words_of line.now ≡ word.now ∷ []) }
+{
+    match first_word(line) {
+        Some((word, rest)) => {
+            if blanks_len(rest) == rest.len() {
+                Some(word)
+            } else {
+                None
+            }
+        }
+        None => None,
+    }
+}
+
+// How many blanks stand at the front.
+fn blanks_len(bytes: &[u8]) -> usize
+    ensures place { result ≡ prefix_len is_blank bytes.now }
+    ensures within { result ≤ length bytes.now }
+{
+    for (i, byte) in bytes.iter().enumerate() {
+        if !is_blank_byte(*byte) {
+            return i;
+        }
+    }
+    bytes.len()
+}
+
+// How many bytes stand before the first blank.
+fn word_len(bytes: &[u8]) -> usize
+    ensures place { result ≡ position_or_len is_blank bytes.now }
+    ensures within { result ≤ length bytes.now }
+{
+    for (i, byte) in bytes.iter().enumerate() {
+        if is_blank_byte(*byte) {
+            return i;
+        }
+    }
+    bytes.len()
+}
+
+fn is_blank_byte(byte: u8) -> bool
+    ensures { result ≡ is_blank byte }
+{
+    byte == b' ' || byte == b'\t'
+}
