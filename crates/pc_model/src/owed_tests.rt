@@ -17,21 +17,24 @@ fn shows(rt: &impl Abort, owed: &Owed, keys: &[u64], from: Option<u64>) {
     assert_eq!(rt; owed.from_key(), from);
 }
 
-// The keys 100 to 163.
-fn full() -> [u64; 64] {
-    let mut keys = [0; 64];
-    for i in 0..64 {
-        keys[i] = 100 + i as u64;
+// This many keys, each one above the one before.
+fn rising<const N: usize>(first: u64) -> [u64; N] {
+    let mut keys = [0; N];
+    for i in 0..N {
+        keys[i] = first.wrapping_add(i as u64);
     }
     keys
 }
 
+// The keys 100 to 163.
+fn full() -> [u64; 64] {
+    rising(100)
+}
+
 // This key, and then 100 to 162.
 fn full_behind(key: u64) -> [u64; 64] {
-    let mut keys = [key; 64];
-    for i in 1..64 {
-        keys[i] = 99 + i as u64;
-    }
+    let mut keys = rising(99);
+    keys[0] = key;
     keys
 }
 
@@ -81,11 +84,11 @@ fn a_charge_lowers_the_number_where_the_list_is_full(rt: HostRuntime) {
 
 #[test]
 fn the_last_place_of_the_list_is_used(rt: HostRuntime) {
-    let keys = full();
-    let mut charged = owing(&keys[..63], None);
+    let keys = rising::<63>(100);
+    let mut charged = owing(&keys, None);
     charged.charge(50);
     shows(&rt, &charged, &full_behind(50), None);
-    let mut put = owing(&keys[..63], None);
+    let mut put = owing(&keys, None);
     put.put_first(50);
     shows(&rt, &put, &full_behind(50), None);
 }
@@ -152,14 +155,13 @@ fn a_released_key_leaves_the_list(rt: HostRuntime) {
 
 #[test]
 fn a_key_leaves_a_full_list(rt: HostRuntime) {
-    let keys = full();
-    let mut owed = owing(&keys, Some(70));
+    let mut owed = owing(&full(), Some(70));
     owed.release(99);
-    shows(&rt, &owed, &keys, Some(70));
+    shows(&rt, &owed, &full(), Some(70));
     owed.release(163);
-    shows(&rt, &owed, &keys[..63], Some(70));
+    shows(&rt, &owed, &rising::<63>(100), Some(70));
     owed.release(100);
-    shows(&rt, &owed, &keys[1..63], Some(70));
+    shows(&rt, &owed, &rising::<62>(101), Some(70));
 }
 
 #[test]
