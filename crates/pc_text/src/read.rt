@@ -5,9 +5,9 @@ ghost use Rattle.std.specs.List.{All};
 ghost use Rattle.pc_text.specs.Script.{script_of};
 ghost use Rattle.pc_text.specs.ScriptFacts.{AreFew, AreInRange, IsFaultOf};
 
+use crate::cut::{after_line, line_len, without_return};
 use crate::kind::ScriptKind;
 use crate::line::{LineClass, MOST_CLIENTS, read_line};
-use crate::cut::{after_line, line_len, without_return};
 use crate::script::{Script, ScriptFault};
 use pc_model::Call;
 use std::alloc::{AllocError, Global};
