@@ -80,9 +80,8 @@ fn empty_lists(alloc: Global) -> Result<Vec<Vec<Call>>, AllocError>
 // Puts a call behind those of its client.
 fn add_call(lists: &mut Vec<Vec<Call>>, client: u32, call: Call) -> Result<(), AllocError>
     requires inside { IsInRange 1 (vec_len lists.old) client }
-    ensures { IfOk result (λ _. map (λ list. list.items) lists.new.items ≡
-        slice_set (map (λ list. list.items) lists.old.items) (client - 1)
-        (slice_index_or (map (λ list. list.items) lists.old.items) (client - 1) [] ++ call ∷ [])) }
+    ensures { IfOk result (λ _. let before = map (λ list. list.items) lists.old.items in
+        map (λ list. list.items) lists.new.items ≡ slice_set before (client - 1) (slice_index_or before (client - 1) [] ++ call ∷ [])) }
 {
     let list = &mut lists[client as usize - 1];
     list.push(call)?;
