@@ -174,7 +174,7 @@ has_read_command bytes rest rest' lists line turn clients commands call read nex
       faults = read.faults ∙ ap (first_bad (line + 1) commands) next.classes ∙ rw test;
       most = read.most ∙ ap (λ lines. max clients (clients_of lines)) next.classes;
       calls = λ place. read.calls place ∙ ap (λ lines. get_or lists place [] ++ calls_of (place + 1) turn lines) next.classes
-      ∙ elim (cases_eq (place + 1) turn) [ inl same ↦ calls_own lists turn place call (classes_of rest') same (omega (arith, read.many, read.turn_in.1)) | inr other ↦ calls_other lists turn place call (classes_of rest') other read.turn_in.0 ];
+          ∙ elim (cases_eq (place + 1) turn) [ inl same ↦ calls_own lists turn place call (classes_of rest') same (omega (arith, read.many, read.turn_in.1)) | inr other ↦ calls_other lists turn place call (classes_of rest') other read.turn_in.0 ];
       lines = omega (arith, read.lines, next.less);
       turn_in = read.turn_in;
       clients_in = read.clients_in;

@@ -1,5 +1,5 @@
 -- What a line of a script is, by its bytes alone.
-use Rattle.std.specs.Prelude.{ℕ, Bool, true, false, not, ◌&&◌, ◌||◌, ◌==◌, nat_lt, nat_le, if◌then◌else◌, is_none, List, [], ◌∷◌, length, drop, map, slice_index, Option, Some, None}
+use Rattle.std.specs.Prelude.{ℕ, Bool, false, not, ◌&&◌, ◌||◌, ◌==◌, nat_lt, nat_le, if◌then◌else◌, is_none, List, [], ◌∷◌, length, map, slice_index, Option, Some, None}
 use Rattle.std.specs.List.{list_all, list_any}
 use Rattle.std.specs.Str.Parse.{digits_value}
 use Rattle.pc_model.specs.declared.call.Call.TheVariants.{Put, Get, Remove, Ceil, Floor}
@@ -10,11 +10,6 @@ use Rattle.pc_text.specs.declared.line.Keyword.TheVariants.{Client as ClientWord
 use Rattle.pc_text.specs.declared.line.LineClass.{LineClass}
 use Rattle.pc_text.specs.declared.line.LineClass.TheVariants.{Skip, Turn, Command, Bad}
 use Rattle.pc_text.specs.ScriptWords.{words_of, keyword_of, is_number}
-
--- a line is skipped where it has no words, or the first one begins with # (35)
-abbrev pub is_skipped : List (List ℕ) → Bool
-is_skipped [] = true
-is_skipped (word ∷ words) = slice_index word 0 == 35
 
 -- a tab, or from 32 to 126
 abbrev pub is_plain : ℕ → Bool
@@ -60,7 +55,7 @@ kinds_of first words =
     (UnknownWord, has_unknown_word first) ∷ (WordCount, has_other_count first words)
     ∷ (BadNumber, has_bad_number first words) ∷ (TooManyClients, has_client_above first words) ∷ []
 
--- what a line says that has no fault
+-- what a line says that has no fault; the last case has one
 abbrev pub meaning_of : Option Keyword → List ℕ → LineClass
 meaning_of (Some ClientWord) (client ∷ []) = Turn client
 meaning_of (Some PutWord) (key ∷ value ∷ []) = Command (Put key value)
@@ -78,13 +73,15 @@ bad_or None class = class
 abbrev pub class_after : Option Keyword → List (List ℕ) → LineClass
 class_after first words = bad_or (first_kind (kinds_of first words)) (meaning_of first (map (λ word. digits_value 10 word) words))
 
--- a bad byte counts before the other kinds
+-- a line is skipped where it has no words, or where the first one begins with # (35); a bad byte counts
+-- before the other kinds
 abbrev pub class_of_words : List ℕ → List (List ℕ) → LineClass
 class_of_words line [] = Skip
 class_of_words line (word ∷ words) =
-    bad_or (first_kind ((BadByte, has_bad_byte line) ∷ kinds_of (keyword_of word) words))
+    if slice_index word 0 == 35 then Skip
+    else bad_or (first_kind ((BadByte, has_bad_byte line) ∷ kinds_of (keyword_of word) words))
     (meaning_of (keyword_of word) (map (λ word. digits_value 10 word) words))
 
 -- what a line is, without its end
 abbrev pub class_of : List ℕ → LineClass
-class_of line = if is_skipped (words_of line) then Skip else class_of_words line (words_of line)
+class_of line = class_of_words line (words_of line)

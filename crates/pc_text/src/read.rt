@@ -5,9 +5,9 @@ ghost use Rattle.std.specs.List.{All};
 ghost use Rattle.pc_text.specs.Script.{script_of};
 ghost use Rattle.pc_text.specs.ScriptFacts.{AreFew, AreInRange, IsFaultOf};
 
+use crate::cut::{after_line, line_len, without_return};
 use crate::kind::ScriptKind;
 use crate::line::{LineClass, MOST_CLIENTS, read_line};
-use crate::cut::{after_line, line_len, without_return};
 use crate::script::{Script, ScriptFault};
 use pc_model::Call;
 use std::alloc::{AllocError, Global};
@@ -80,9 +80,8 @@ fn empty_lists(alloc: Global) -> Result<Vec<Vec<Call>>, AllocError>
 // Puts a call behind those of its client.
 fn add_call(lists: &mut Vec<Vec<Call>>, client: u32, call: Call) -> Result<(), AllocError>
     requires inside { IsInRange 1 (vec_len lists.old) client }
-    ensures { IfOk result (λ _. map (λ list. list.items) lists.new.items ≡
-        slice_set (map (λ list. list.items) lists.old.items) (client - 1)
-        (slice_index_or (map (λ list. list.items) lists.old.items) (client - 1) [] ++ call ∷ [])) }
+    ensures { IfOk result (λ _. let before = map (λ list. list.items) lists.old.items in
+        map (λ list. list.items) lists.new.items ≡ slice_set before (client - 1) (slice_index_or before (client - 1) [] ++ call ∷ [])) }
 {
     let list = &mut lists[client as usize - 1];
     list.push(call)?;
