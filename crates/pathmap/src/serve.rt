@@ -67,6 +67,7 @@ pub fn serve<R: Threads + Wait + Sync, S: Source, K: Sink, G: Gate + Sync>(
 fn run_input<S: Source>(alloc: Global, words: &[String], source: &mut S) -> Result<Run, Fault>
     ensures ok { IfOk result (λ run. HasRunAll (S.left source.old) (S.left source.new) run.history.items run.pairs.items) }
     ensures one_word { IfOk result (λ _. length words.now ≡ 1) }
+    ensures not_refused { IfOk result (λ _. IfSome (S.left source.old) (λ bytes. IsRefused bytes → ⊥)) }
     ensures cause { IfErr result (IsCauseOf (length words.now) (S.left source.old) (S.faults source.old) (S.faults source.new)) }
     ensures unread { length words.now ≢ 1 → source.new ≡ source.old }
     ensures few { TakesAtMost 4194305 (S.left source.old) (S.left source.new) }
@@ -96,6 +97,7 @@ fn fault_of(unread: Unread) -> Fault
 fn run_bytes(alloc: Global, bytes: &[u8]) -> Result<Run, Fault>
     requires { length bytes.now ≤ 4194304 }
     ensures ok { IfOk result (λ run. RunsBytes bytes.now run.history.items run.pairs.items) }
+    ensures not_refused { IfOk result (λ _. IsRefused bytes.now → ⊥) }
     ensures cause { IfErr result (IsBytesFault bytes.now) }
 {
     let script = match read_script(alloc, bytes) {
