@@ -14,4 +14,5 @@ pub mod SortedLists
 pub mod Soundness
 pub mod Worked
 pub mod WorkedCells
+pub mod WorkedDebts
 pub mod Writes

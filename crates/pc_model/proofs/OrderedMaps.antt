@@ -1,5 +1,5 @@
 -- std's ordered map from numbers to numbers, seen as its entries, is the sorted map.
-use Rattle.std.proofs.Common.{◌≡◌, ℕ, ◌+◌, ◌≤◌, ◌<◌, inl, inr, List, [], ◌∷◌, Option, Some, None, filter, refl, ap, ◌∙◌, arith}
+use Rattle.std.proofs.Common.{◌≡◌, ℕ, ◌+◌, ◌≤◌, ◌<◌, inl, inr, List, [], ◌∷◌, refl, arith}
 use Rattle.std.proofs.lemmas.Bool.{cases_lt}
 use Rattle.std.proofs.lemmas.Bool.Decides.{nat_tests}
 use Rattle.std.specs.Ordering.{nat_cmp}
@@ -10,7 +10,7 @@ use Rattle.std.specs.BTreeMap.{insert_entry, is_at}
 use Rattle.std.specs.BTreeMap.Range.{entries_between}
 use Rattle.std.specs.declared.ops.Bound.TheVariants.{Included, Unbounded}
 use Rattle.std.specs.declared.cmp.Ordering.TheVariants.{Less}
-use Rattle.pc_model.specs.Map.{Pairs, RisesFrom, IsRising, AreAbove, value_at, put, without, ceil_of, floor_of, first_of, last_of, later}
+use Rattle.pc_model.specs.Map.{Pairs, RisesFrom, AreAbove, value_at, put, without, ceil_of, floor_of, first_of, last_of}
 use Rattle.pc_model.proofs.SortedLists.{rises_above}
 
 pub lookup-is_value_at : (k : ℕ) (ps : Pairs) → lookup (is_at (nat_cmp k)) ps ≡ value_at k ps

@@ -1,5 +1,5 @@
-use Rattle.std.proofs.Common.{◌≡◌, ◌∙◌, sym, ap, Some, None}
-use Rattle.pc_model.specs.Map.{reply_of, value_or_nothing}
+use Rattle.std.proofs.Common.{◌∙◌, ap}
+use Rattle.pc_model.specs.Map.{value_or_nothing}
 use Rattle.pc_model.proofs.OrderedMaps.{lookup-is_value_at, remove_entry-is_without}
 use Rattle.pc_model.proofs.first_wrong.answer.Goals as goal
 

@@ -1,4 +1,3 @@
-use Rattle.std.proofs.Common.{take}
 use Rattle.pc_model.proofs.Replaying.{HasReplayed}
 use Rattle.pc_model.proofs.first_wrong.replay.Given as goal
 

@@ -1,5 +1,5 @@
-use Rattle.std.proofs.Common.{◌≡◌, ◌∙◌, sym, ap, arith, true, false, length, ◌<◌}
-use Rattle.pc_model.specs.Debts.{Debts, has, with_room}
+use Rattle.std.proofs.Common.{◌≡◌, ◌∙◌, sym, arith, true, false}
+use Rattle.pc_model.specs.Debts.{has}
 use Rattle.pc_model.proofs.DebtLists.{length-without_key, has-without_key, has-with_room}
 use Rattle.pc_model.proofs.owed.Owed.put_first.Goals as goal
 use Rattle.pc_model.proofs.owed.Owed.put_first.Goals.{then-contains, else-contains}
