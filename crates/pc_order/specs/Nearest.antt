@@ -1,8 +1,7 @@
 -- The nearest pair on one side of a key, at a pair with smaller keys before it and greater keys behind.
-use Rattle.std.proofs.Common.{◌≡◌, ◌≢◌, ℕ, ◌<◌, if◌then◌else◌, Bool, true, false, [], ◌∷◌, ◌++◌, Option, Some, None, refl, sym, ap, ◌∙◌, arith}
+use Rattle.std.proofs.Common.{◌≡◌, ◌≢◌, ℕ, ◌<◌, if◌then◌else◌, true, false, [], ◌∷◌, ◌++◌, Option, Some, None, refl, sym, ap, ◌∙◌, arith}
 use Rattle.std.specs.Prelude.{nat_le}
 use Rattle.std.proofs.lemmas.Bool.{le-leb, lt-leb, cond-true, cond-false}
-use Rattle.pc_model.specs.declared.call.Reply.{Reply}
 use Rattle.pc_model.specs.Map.{Pairs, AreBelow, AreAbove, ceil_of, floor_of, found_or, pair_or_nothing, reply_of, pairs_after}
 use Rattle.pc_model.proofs.SortedLists.{ceil_of-front, ceil_of-back, ceil_of-here, floor_of-front, floor_of-back, floor_of-here}
 use Rattle.pc_order.specs.declared.search.Way.{Way}

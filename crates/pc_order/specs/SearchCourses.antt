@@ -1,9 +1,8 @@
 -- A search on a tree that stands still: below each link it comes to the nearest pair that the subtree
 -- has on its side of the key, or else to the one that it remembers.
-use Rattle.std.proofs.Common.{◌≡◌, ◌≢◌, ℕ, suc, ◌+◌, ◌*◌, ◌<◌, ◌≤◌, ◌==◌, ◌⊎◌, ⊎_elim, inl, inr, if◌then◌else◌, true, List, [], ◌∷◌, Option, Some, None, refl, sym, ap, ◌∙◌, subst, arith}
+use Rattle.std.proofs.Common.{◌≡◌, ◌≢◌, ℕ, suc, ◌+◌, ◌*◌, ◌<◌, ◌≤◌, ◌==◌, ⊎_elim, inl, inr, true, List, [], ◌∷◌, Option, Some, None, refl, sym, ap, ◌∙◌, subst, arith}
 use Rattle.std.specs.Prelude.{nat_lt}
 use Rattle.std.proofs.lemmas.Bool.{cases_Bool, cases_eq, cases_order, eq-eqb, ne_eqb, lt-ltb, le-ltb, cond-true, cond-false}
-use Rattle.pc_model.specs.declared.call.Call.{Call}
 use Rattle.pc_model.specs.declared.cell.Field.{Field}
 use Rattle.pc_model.specs.declared.cell.Field.TheVariants.{Version as VersionField, Key as KeyField, Value as ValueField, Left, Right}
 use Rattle.pc_model.specs.Map.{Pairs, IsRising, found_or, pair_or_nothing}
@@ -57,7 +56,8 @@ module _ (way : Way) (kind : Kind) (slots : ℕ) (c : Cells) (ps : Pairs) (k : �
   abbrev GoesOn : ℕ → ℕ → Option (ℕ × ℕ) → List Event → Type 0
   GoesOn turns n o past = Goes turns past (going (at n o AKey) (c n KeyField))
 
-  -- told a node's key, it answers at once where that is the key, or else goes on, with the pair remembered where it lies on its side
+  -- told a node's key, the search ends there where it is its own; else it goes on, with the pair
+  -- remembered where that lies on its side
   module _ (turns n : ℕ) (o : Option (ℕ × ℕ)) (past : List Event) (node : IsNode slots n) (here : k ≡ c n KeyField → nearest_on way k ps ≡ Some (pair_of c n))
       (on : (past' : List Event) → ((m : ℕ) → version_seen m past' ≡ version_seen m past) → k ≢ c n KeyField → GoesOn turns n (remembered way k (pair_of c n) o) past') where
     met : is_on way k (c n KeyField) ≡ true → Goes turns (found n ValueField (c n ValueField) ∷ past) (remembering (at n o (AValue (c n KeyField))) (c n KeyField) (c n ValueField))
@@ -90,9 +90,16 @@ module _ (way : Way) (kind : Kind) (slots : ℕ) (c : Cells) (ps : Pairs) (k : �
   abbrev pub GoesBelow : ℕ → ℕ → Field → Option (ℕ × ℕ) → List Event → Type 0
   GoesBelow turns n f o past = Goes turns past (at n o (ALink f), Read n f)
 
-  -- the search goes on at the link on the way to its key
-  toward_link : (turns n : ℕ) (f : Field) (o : Option (ℕ × ℕ)) (past : List Event) → toward k (c n KeyField) ≡ f → GoesBelow turns n f o past → GoesOn turns n o past
-  toward_link turns n f o past e go = subst (λ (g : Field). GoesBelow turns n g o past) (sym e) go
+  at_link : (turns n : ℕ) (f : Field) (o : Option (ℕ × ℕ)) (past : List Event) → toward k (c n KeyField) ≡ f → GoesBelow turns n f o past → GoesOn turns n o past
+  at_link turns n f o past e go = subst (λ (g : Field). GoesBelow turns n g o past) (sym e) go
+
+  -- the search goes on to the side where its key lies
+  to_side : (turns n : ℕ) (o : Option (ℕ × ℕ)) (past : List Event) → k ≢ c n KeyField
+      → (k < c n KeyField → GoesBelow turns n Left o past) → (c n KeyField < k → GoesBelow turns n Right o past) → GoesOn turns n o past
+  to_side turns n o past ne left right = ⊎_elim (λ e. absurd (ne e)) (λ apart. ⊎_elim
+      (λ lt. at_link turns n Left o past (cond-true (nat_lt k (c n KeyField)) Left Right (lt-ltb k (c n KeyField) lt)) (left lt))
+      (λ gt. at_link turns n Right o past (cond-false (nat_lt k (c n KeyField)) Left Right (le-ltb k (c n KeyField) (omega arith))) (right gt))
+      apart) (cases_order k (c n KeyField))
 
   -- from the link to a tree on
   search_below : (t : Tree) (above : ℕ) (f : Field) (o : Option (ℕ × ℕ)) (past : List Event) → IsNode slots above → Spells kind slots c t above (c above f) → IsRising (pairs_of c t) → IsUnseen t past
@@ -117,22 +124,18 @@ module _ (way : Way) (kind : Kind) (slots : ℕ) (c : Cells) (ps : Pairs) (k : �
       let unseen_l : IsUnseen l past3 = λ m i. version_seen-else m n v past1 (λ e. a.not_left (subst (λ (x : ℕ). IsIn x l) (sym e) i)) ∙ unseen m (inr (inl i)) in
       let unseen_r : IsUnseen r past3 = λ m i. version_seen-else m n v past1 (λ e. a.not_right (subst (λ (x : ℕ). IsIn x r) (sym e) i)) ∙ unseen m (inr (inr i)) in
       let is_here : k ≡ c n KeyField → nearest_on way k ps ≡ Some (pair_of c n) = λ e.
-          near ∙ ap (λ (q : Option (ℕ × ℕ)). found_or q o) (nearest-here way k (pairs_of c l) (pair_of c n) (pairs_of c r) a.below a.above e) in
-      let on : (past' : List Event) → ((m : ℕ) → version_seen m past' ≡ version_seen m past3) → k ≢ c n KeyField → GoesOn turns n kept past' = λ past' same ne.
-          ⊎_elim (λ e. absurd (ne e)) (λ apart. ⊎_elim
-          (λ lt. let near_l : nearest_on way k ps ≡ found_or (nearest_on way k (pairs_of c l)) kept = near ∙ nearest-before way k (pairs_of c l) (pair_of c n) (pairs_of c r) o a.above lt in
-          let go : GoesBelow (turns_below l) n Left kept past' = search_below l n Left kept past' here spelled.2 a.left (λ m i. same m ∙ unseen_l m i) near_l in
-          toward_link turns n Left kept past' (cond-true (nat_lt k (c n KeyField)) Left Right (lt-ltb k (c n KeyField) lt)) (more (turns_below l) turns past' (at n kept (ALink Left), Read n Left) (omega arith) go))
-          (λ gt. let near_r : nearest_on way k ps ≡ found_or (nearest_on way k (pairs_of c r)) kept = near ∙ nearest-behind way k (pairs_of c l) (pair_of c n) (pairs_of c r) o a.below gt in
-          let go : GoesBelow (turns_below r) n Right kept past' = search_below r n Right kept past' here spelled.3 a.right (λ m i. same m ∙ unseen_r m i) near_r in
-          toward_link turns n Right kept past' (cond-false (nat_lt k (c n KeyField)) Left Right (le-ltb k (c n KeyField) (omega arith))) (more (turns_below r) turns past' (at n kept (ALink Right), Read n Right) (omega arith) go))
-          apart) (cases_order k (c n KeyField)) in
+      near ∙ ap (λ (q : Option (ℕ × ℕ)). found_or q o) (nearest-here way k (pairs_of c l) (pair_of c n) (pairs_of c r) a.below a.above e) in
+      let on : (past' : List Event) → ((m : ℕ) → version_seen m past' ≡ version_seen m past3) → k ≢ c n KeyField → GoesOn turns n kept past' = λ past' same ne. to_side turns n kept past' ne
+      (λ lt. more (turns_below l) turns past' (at n kept (ALink Left), Read n Left) (omega arith) (search_below l n Left kept past' here spelled.2 a.left (λ m i. same m ∙ unseen_l m i)
+      (near ∙ nearest-before way k (pairs_of c l) (pair_of c n) (pairs_of c r) o a.above lt)))
+      (λ gt. more (turns_below r) turns past' (at n kept (ALink Right), Read n Right) (omega arith) (search_below r n Right kept past' here spelled.3 a.right (λ m i. same m ∙ unseen_r m i)
+      (near ∙ nearest-behind way k (pairs_of c l) (pair_of c n) (pairs_of c r) o a.below gt))) in
       let go3 : Goes (suc turns) past3 (comparing (at n o AKey) (c n KeyField)) = goes_at_key turns n o past3 here is_here on in
       let asks : Search × Ask = reading (at n o AVersion) KeyField AKey in
       let arrives : arriving (at n o AVersion) ≡ asks = cond-false (n == 1) (reading (at n o AVersion) Left (ALink Left)) asks (ne_eqb n 1 (λ e. absurd (omega arith))) in
       let go2 : Goes (suc (suc turns)) past2 (arriving (at n o AVersion)) = subst (Goes (suc (suc turns)) past2) (sym arrives) (here, go3) in
       let go1 : Goes (suc (suc (suc turns))) past1 (following (at above o (ALink f)) (node_at (c above f))) =
-          subst (λ (q : Option ℕ). Goes (suc (suc (suc turns))) past1 (following (at above o (ALink f)) q)) (sym named) ((here, at_node.unmarked, unseen n (inl refl)), go2) in
+      subst (λ (q : Option ℕ). Goes (suc (suc (suc turns))) past1 (following (at above o (ALink f)) q)) (sym named) ((here, at_node.unmarked, unseen n (inl refl)), go2) in
       (node, go1)
 
   -- the whole search, from the visit of the sentinel on

@@ -1,15 +1,12 @@
 -- The laws of ceil and floor.
-use Rattle.std.proofs.Common.{◌≡◌, ℕ, ◌+◌, ◌*◌, ◌≤◌, inl, suc, List, [], length, Option, Some, None, refl, arith}
-use Rattle.pc_model.specs.declared.call.Call.{Call}
-use Rattle.pc_model.specs.Map.{Pairs, IsKey}
-use Rattle.pc_model.specs.Cells.{Cells}
+use Rattle.std.proofs.Common.{ℕ, ◌+◌, ◌*◌, ◌≤◌, inl, suc, [], length, Some, refl, arith}
+use Rattle.pc_model.specs.Map.{IsKey}
 use Rattle.pc_model.specs.Trees.{size_of}
 use Rattle.pc_model.proofs.Soundness.{search_tree_size}
 use Rattle.pc_plan.specs.declared.plan.Ask.{Ask}
-use Rattle.pc_plan.specs.declared.plan.Ask.TheVariants.{Visit}
 use Rattle.pc_plan.specs.declared.plan.Told.TheVariants.{Begin}
 use Rattle.pc_plan.specs.Traces.{after, learned_along}
-use Rattle.pc_plan.specs.Runs.{Runs, IsReady}
+use Rattle.pc_plan.specs.Runs.{Runs}
 use Rattle.pc_plan.specs.Lawful.{IsLawful}
 use Rattle.pc_plan.proofs.Courses.{course_goes, course_ends}
 use Rattle.pc_plan.proofs.Learning.{kept_along}
