@@ -46,7 +46,7 @@ toward k x = if nat_lt k x then Left else Right
 abbrev pub going : Search → ℕ → Search × Ask
 going s x = reading s (toward s.key x) (ALink (toward s.key x))
 
--- a node on the right side of the key is remembered, so its value is read
+-- a pair whose key lies on the side that is searched is remembered, so its value is read
 abbrev pub comparing : Search → ℕ → Search × Ask
 comparing s x = if is_on s.way s.key x then reading s ValueField (AValue x) else going s x
 

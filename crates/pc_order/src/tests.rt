@@ -170,42 +170,42 @@ fn put(cells: &mut PlainCells, key: u64, value: u64) -> Result<Reply, NoPlainSlo
     run::<BstPut>(cells, (key, value))
 }
 
-// A plain tree is one after a ceil too.
-fn ceil(cells: &mut PlainCells, key: u64) -> Result<Reply, NoPlainSlot>
+// A ceil is never refused a slot, and a plain tree is one after it too.
+fn ceil(cells: &mut PlainCells, key: u64) -> Reply
     requires key { IsKey key }
     requires tree { HoldsPairs IsPlainTree cells.old }
     ensures { HoldsPairs IsPlainTree cells.new }
 {
     match run_plan::<CeilPlan>(cells, key) {
-        Ok(reply) => Ok(reply),
-        Err(full) => Err(full),
+        Ok(reply) => reply,
+        Err(_) => unreachable!(),
     }
 }
 
-fn floor(cells: &mut PlainCells, key: u64) -> Result<Reply, NoPlainSlot>
+fn floor(cells: &mut PlainCells, key: u64) -> Reply
     requires key { IsKey key }
     requires tree { HoldsPairs IsPlainTree cells.old }
     ensures { HoldsPairs IsPlainTree cells.new }
 {
     match run_plan::<FloorPlan>(cells, key) {
-        Ok(reply) => Ok(reply),
-        Err(full) => Err(full),
+        Ok(reply) => reply,
+        Err(_) => unreachable!(),
     }
 }
 
 #[test]
 fn the_nearest_of_two_pairs(rt: HostRuntime) -> Result<(), Fail> {
     let mut cells = opened(rt.alloc(), 2)?;
-    assert_eq!(rt; ceil(&mut cells, 7), Ok(Reply::None));
-    assert_eq!(rt; floor(&mut cells, 7), Ok(Reply::None));
+    assert_eq!(rt; ceil(&mut cells, 7), Reply::None);
+    assert_eq!(rt; floor(&mut cells, 7), Reply::None);
     assert_eq!(rt; put(&mut cells, 5, 50), Ok(Reply::New));
     assert_eq!(rt; put(&mut cells, 9, 90), Ok(Reply::New));
-    assert_eq!(rt; ceil(&mut cells, 7), Ok(Reply::Pair(9, 90)));
-    assert_eq!(rt; floor(&mut cells, 7), Ok(Reply::Pair(5, 50)));
-    assert_eq!(rt; ceil(&mut cells, 10), Ok(Reply::None));
-    assert_eq!(rt; floor(&mut cells, 4), Ok(Reply::None));
-    assert_eq!(rt; ceil(&mut cells, 5), Ok(Reply::Pair(5, 50)));
-    assert_eq!(rt; floor(&mut cells, 9), Ok(Reply::Pair(9, 90)));
+    assert_eq!(rt; ceil(&mut cells, 7), Reply::Pair(9, 90));
+    assert_eq!(rt; floor(&mut cells, 7), Reply::Pair(5, 50));
+    assert_eq!(rt; ceil(&mut cells, 10), Reply::None);
+    assert_eq!(rt; floor(&mut cells, 4), Reply::None);
+    assert_eq!(rt; ceil(&mut cells, 5), Reply::Pair(5, 50));
+    assert_eq!(rt; floor(&mut cells, 9), Reply::Pair(9, 90));
     // A ceil and a floor took no slot and left none.
     assert_eq!(rt; put(&mut cells, 7, 70), Err(NoPlainSlot { live: 2 }));
     Ok(())
@@ -241,9 +241,9 @@ fn every_key_around_a_larger_tree(rt: HostRuntime) -> Result<(), Fail> {
     ];
     for key in 0..13u64 {
         let above = all.iter().find(|pair| pair.0 >= key);
-        assert_eq!(rt; ceil(&mut cells, key), Ok(reply_of(above)), "ceil {key}");
+        assert_eq!(rt; ceil(&mut cells, key), reply_of(above), "ceil {key}");
         let below = all.iter().rev().find(|pair| pair.0 <= key);
-        assert_eq!(rt; floor(&mut cells, key), Ok(reply_of(below)), "floor {key}");
+        assert_eq!(rt; floor(&mut cells, key), reply_of(below), "floor {key}");
     }
     Ok(())
 }
