@@ -36,15 +36,43 @@ fn read(alloc: Global, bytes: &[u8]) -> Result<Script, ScriptFault> {
 
 // Whether the bytes spell a script of one client with these calls.
 fn is_read(alloc: Global, bytes: &[u8], wanted: &[Call]) -> bool {
+    are_read(alloc, bytes, &[wanted])
+}
+
+// Whether the bytes spell a script of clients with these calls.
+fn are_read(alloc: Global, bytes: &[u8], wanted: &[&[Call]]) -> bool {
     match read(alloc, bytes) {
-        Ok(script) => {
-            if script.clients != 1 || script.calls.len() != 1 {
-                return false;
-            }
-            script.calls[0].as_slice() == wanted
-        }
+        Ok(script) => script.clients as usize == wanted.len() && are_equal(&script.calls, wanted),
         Err(_) => false,
     }
+}
+
+fn are_equal(lists: &[Vec<Call>], wanted: &[&[Call]]) -> bool {
+    if lists.len() != wanted.len() {
+        return false;
+    }
+    for (i, calls) in wanted.iter().enumerate() {
+        if lists[i].as_slice() != *calls {
+            return false;
+        }
+    }
+    true
+}
+
+// How many calls of how many clients the bytes spell.
+fn counts(alloc: Global, bytes: &[u8]) -> (u32, usize) {
+    match read(alloc, bytes) {
+        Ok(script) => (script.clients, count_all(&script.calls)),
+        Err(_) => (0, 0),
+    }
+}
+
+fn count_all(lists: &[Vec<Call>]) -> usize {
+    let mut count: usize = 0;
+    for calls in lists {
+        count = count.saturating_add(calls.len());
+    }
+    count
 }
 
 // Whether this is the first bad line of the bytes.
@@ -204,13 +232,7 @@ fn the_60_001st_command_is_refused(rt: HostRuntime) -> Result<(), Fail> {
         assert!(rt; is_refused(rt.alloc(), bytes.as_slice(), 60_003, kind));
     }
     let bytes = repeated(rt.alloc(), full.as_slice(), b"#\n\nclient 3\n", 1)?;
-    match read(rt.alloc(), bytes.as_slice()) {
-        Ok(script) => {
-            assert_eq!(rt; script.clients, 3);
-            assert_eq!(rt; script.calls[1].len(), 60_000);
-        }
-        Err(_) => assert!(rt; false),
-    }
+    assert_eq!(rt; counts(rt.alloc(), bytes.as_slice()), (3, 60_000));
     let lines = repeated(rt.alloc(), b"", b"get 1\n", 60_001)?;
     assert!(rt;
         is_refused(
@@ -263,37 +285,19 @@ fn bytes_that_are_not_plain_stand_in_comments_alone(rt: HostRuntime) -> Result<(
 
 #[test]
 fn clients_come_back(rt: HostRuntime) -> Result<(), Fail> {
-    let text = b"get 1\nclient 3\nget 2\nclient 1\nget 3\nclient 3\nget 4\nclient 4\n";
-    match read(rt.alloc(), text) {
-        Ok(script) => {
-            assert_eq!(rt; script.clients, 4);
-            assert_eq!(rt; script.calls.len(), 4);
-            let first: &[Call] = &[Call::Get { key: 1 }, Call::Get { key: 3 }];
-            let third: &[Call] = &[Call::Get { key: 2 }, Call::Get { key: 4 }];
-            assert!(rt; script.calls[0].as_slice() == first);
-            assert_eq!(rt; script.calls[1].len(), 0);
-            assert!(rt; script.calls[2].as_slice() == third);
-            assert_eq!(rt; script.calls[3].len(), 0);
-        }
-        Err(_) => assert!(rt; false),
-    }
-    match read(rt.alloc(), b"client 32\nget 1\nclient 5") {
-        Ok(script) => {
-            assert_eq!(rt; script.clients, 32);
-            assert_eq!(rt; script.calls[0].len(), 0);
-            assert_eq!(rt; script.calls[31].len(), 1);
-        }
-        Err(_) => assert!(rt; false),
-    }
-    match read(rt.alloc(), b"client 5") {
-        Ok(script) => {
-            assert_eq!(rt; script.clients, 5);
-            for calls in &script.calls {
-                assert_eq!(rt; calls.len(), 0);
-            }
-        }
-        Err(_) => assert!(rt; false),
-    }
+    let one: &[Call] = &[Call::Get { key: 1 }];
+    let first: &[Call] = &[Call::Get { key: 1 }, Call::Get { key: 3 }];
+    let third: &[Call] = &[Call::Get { key: 2 }, Call::Get { key: 4 }];
+    let back = b"get 1\nclient 3\nget 2\nclient 1\nget 3\nclient 3\nget 4\nclient 4\n";
+    assert!(rt; are_read(rt.alloc(), back, &[first, &[], third, &[]]));
+    let alone = b"client 5";
+    assert!(rt; are_read(rt.alloc(), alone, &[&[], &[], &[], &[], &[]]));
+    let lower = b"client 2\nclient 3\nclient 2\nget 1";
+    assert!(rt; are_read(rt.alloc(), lower, &[&[], one, &[]]));
+    let zeros = b"client 00003\nclient 1\nget 1";
+    assert!(rt; are_read(rt.alloc(), zeros, &[one, &[], &[]]));
+    let text = b"client 32\nget 1\nclient 5";
+    assert_eq!(rt; counts(rt.alloc(), text), (32, 1));
     Ok(())
 }
 
