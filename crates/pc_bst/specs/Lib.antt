@@ -1,5 +1,6 @@
 pub mod GetLaws
 pub mod Gets
+pub mod LinkFields
 pub mod PlainTreeLaws
 pub mod PlainTrees
 pub mod PutEnds

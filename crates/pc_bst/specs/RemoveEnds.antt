@@ -18,6 +18,7 @@ use Rattle.pc_plan.specs.Traces.{Event}
 use Rattle.pc_plan.proofs.Courses.{IsRightEnd}
 use Rattle.pc_bst.specs.declared.unlink.Place.{Place}
 use Rattle.pc_bst.specs.declared.unlink.Target.{Target}
+use Rattle.pc_bst.specs.LinkFields.{link_only, link_fits}
 use Rattle.pc_bst.specs.Versions.{raised}
 use Rattle.pc_bst.specs.VersionLaws.{two_more, one_more, two_more-parity, one_more-odd}
 use Rattle.pc_bst.specs.Unlinks.{unlinked, lifted, lifted_with}
@@ -35,18 +36,6 @@ marked_parity c c' s odd others m = ⊎_elim
     (λ ne. others m (λ d. ne (sym d)) ∙ sym (cond-false (s == m) 1 (c m VersionField % 2) (ne_eqb s m ne)))
     (cases_eq s m)
 
-not_version : (side : Field) → (side ≡ Left) ⊎ (side ≡ Right) → side ≢ VersionField
-not_version side link = ⊎_elim (λ l e. let d : Left ≡ VersionField = sym l ∙ e in absurd (cc)) (λ r e. let d : Right ≡ VersionField = sym r ∙ e in absurd (cc)) link
-
-not_key : (side : Field) → (side ≡ Left) ⊎ (side ≡ Right) → side ≢ KeyField
-not_key side link = ⊎_elim (λ l e. let d : Left ≡ KeyField = sym l ∙ e in absurd (cc)) (λ r e. let d : Right ≡ KeyField = sym r ∙ e in absurd (cc)) link
-
-not_value : (side : Field) → (side ≡ Left) ⊎ (side ≡ Right) → side ≢ ValueField
-not_value side link = ⊎_elim (λ l e. let d : Left ≡ ValueField = sym l ∙ e in absurd (cc)) (λ r e. let d : Right ≡ ValueField = sym r ∙ e in absurd (cc)) link
-
-link_fits : (side : Field) (x : ℕ) → (side ≡ Left) ⊎ (side ≡ Right) → x < 2 ^ 62 → FitsWord side (ToNumber x)
-link_fits side x link small = ⊎_elim (λ e. subst (λ (f : Field). FitsWord f (ToNumber x)) (sym e) small) (λ e. subst (λ (f : Field). FitsWord f (ToNumber x)) (sym e) small) link
-
 module _ (slots : ℕ) (c : Cells) (ps : Pairs) (k : ℕ) (ready : IsReady IsPlainTree slots c ps) where
   -- the cells where a node is unlinked
   abbrev with_unlinked : ℕ → Field → ℕ → ℕ → Cells
@@ -61,19 +50,19 @@ module _ (slots : ℕ) (c : Cells) (ps : Pairs) (k : ℕ) (ready : IsReady IsPla
       record {
         link = written-other_node n VersionField v c2 a side apart ∙ written-here a side child c1;
         rest = λ f not_side not_ver. written-other_node n VersionField v c2 a f apart ∙ written-else a side child c1 a f (λ _. not_side) ∙ written-else a VersionField (two_more (c a VersionField)) c a f (λ _. not_ver);
-        unmarked = ap (λ (x : ℕ). x % 2) (written-other_node n VersionField v c2 a VersionField apart ∙ written-else a side child c1 a VersionField (λ _ e. not_version side link (sym e)) ∙ written-here a VersionField (two_more (c a VersionField)) c)
+        unmarked = ap (λ (x : ℕ). x % 2) (written-other_node n VersionField v c2 a VersionField apart ∙ written-else a side child c1 a VersionField (λ _ e. (link_only side link).version (sym e)) ∙ written-here a VersionField (two_more (c a VersionField)) c)
             ∙ two_more-parity (c a VersionField) (ready.fits.versions a is_a.1) ∙ even_a;
         marked = ap (λ (x : ℕ). x % 2) (written-here n VersionField v c2) ∙ one_more-odd (c n VersionField) (ready.fits.versions n is_n.1) even_n;
         elsewhere = λ m not_a not_n f. written-other_node n VersionField v c2 m f not_n ∙ written-other_node a side child c1 m f not_a ∙ written-other_node a VersionField (two_more (c a VersionField)) c m f not_a;
       }
 
   -- a place in these cells
-  abbrev pub place_at : ℕ → Field → ℕ → Place
-  place_at a side n = record { above = record { node = a; version = c a VersionField; side = side }; node = n; version = c n VersionField }
+  abbrev pub place_in : ℕ → Field → ℕ → Place
+  place_in a side n = record { above = record { node = a; version = c a VersionField; side = side }; node = n; version = c n VersionField }
 
   pub unlink_end : (past : List Event) (above : ℕ) (side : Field) (n child : ℕ) (l r : Tree) (slot : ℕ) → Hole plain slots c ps ready.is_sound.tree k above side (Fork n l r) → (side ≡ Left) ⊎ (side ≡ Right)
       → child < 2 ^ 62 → ((c' : Cells) → IsUnlinked c c' above side n child → IsPlainTree slots c' (without k ps))
-      → IsRightEnd IsPlainTree slots c past (without k ps) (unlinked (place_at above side n) child (c n ValueField)) slot
+      → IsRightEnd IsPlainTree slots c past (without k ps) (unlinked (place_in above side n) child (c n ValueField)) slot
   unlink_end past above side n child l r slot h link small leaves =
       let node : IsTreeNode plain slots c above n = h.spelled.1 in
       let is : IsSlot slots n = node.slot in
@@ -113,11 +102,11 @@ module _ (slots : ℕ) (c : Cells) (ps : Pairs) (k : ℕ) (ready : IsReady IsPla
     with_mark = written s VersionField (one_more (c s VersionField)) with_link
 
     key_up : with_mark n KeyField ≡ c s KeyField
-    key_up = written-else s VersionField (one_more (c s VersionField)) with_link n KeyField (λ e. absurd (not_n (sym e))) ∙ written-else q link (c s Right) with_value n KeyField (λ _ e. not_key link is_link (sym e))
+    key_up = written-else s VersionField (one_more (c s VersionField)) with_link n KeyField (λ e. absurd (not_n (sym e))) ∙ written-else q link (c s Right) with_value n KeyField (λ _ e. (link_only link is_link).key (sym e))
         ∙ written-else n ValueField (c s ValueField) with_key n KeyField (λ _ e. absurd (cc)) ∙ written-here n KeyField (c s KeyField) with_version
 
     value_up : with_mark n ValueField ≡ c s ValueField
-    value_up = written-else s VersionField (one_more (c s VersionField)) with_link n ValueField (λ e. absurd (not_n (sym e))) ∙ written-else q link (c s Right) with_value n ValueField (λ _ e. not_value link is_link (sym e))
+    value_up = written-else s VersionField (one_more (c s VersionField)) with_link n ValueField (λ e. absurd (not_n (sym e))) ∙ written-else q link (c s Right) with_value n ValueField (λ _ e. (link_only link is_link).value (sym e))
         ∙ written-here n ValueField (c s ValueField) with_key
 
     linked_on : with_mark q link ≡ c s Right
@@ -129,7 +118,7 @@ module _ (slots : ℕ) (c : Cells) (ps : Pairs) (k : ℕ) (ready : IsReady IsPla
 
     -- but for s, versions are as in the first of these cells
     version_same : (m : ℕ) → m ≢ s → with_mark m VersionField ≡ with_version m VersionField
-    version_same m ne = written-else s VersionField (one_more (c s VersionField)) with_link m VersionField (λ e. absurd (ne e)) ∙ written-else q link (c s Right) with_value m VersionField (λ _ e. not_version link is_link (sym e))
+    version_same m ne = written-else s VersionField (one_more (c s VersionField)) with_link m VersionField (λ e. absurd (ne e)) ∙ written-else q link (c s Right) with_value m VersionField (λ _ e. (link_only link is_link).version (sym e))
         ∙ written-else n ValueField (c s ValueField) with_key m VersionField (λ _ e. absurd (cc)) ∙ written-else n KeyField (c s KeyField) with_version m VersionField (λ _ e. absurd (cc))
 
     version_parity : (m : ℕ) → m ≢ s → with_mark m VersionField % 2 ≡ c m VersionField % 2
@@ -155,7 +144,7 @@ module _ (slots : ℕ) (c : Cells) (ps : Pairs) (k : ℕ) (ready : IsReady IsPla
     but_lifted c' but = record {
       key = but.fields n KeyField (λ e. absurd (cc)) ∙ key_up;
       value = but.fields n ValueField (λ e. absurd (cc)) ∙ value_up;
-      linked = but.fields q link (not_version link is_link) ∙ linked_on;
+      linked = but.fields q link (link_only link is_link).version ∙ linked_on;
       rest = λ m f ne ver key value other. but.fields m f ver ∙ rest_same m f ver key value other;
       versions = λ m ne_n ne_q ne_s. but.versions m ne_q ∙ version_same m ne_s ∙ written-other_node n VersionField (two_more (c n VersionField)) c m VersionField ne_n;
       unmarked_n = but_parity c' but n (λ e. not_n (sym e)) ∙ even_n;
@@ -182,9 +171,9 @@ module _ (slots : ℕ) (c : Cells) (ps : Pairs) (k : ℕ) (ready : IsReady IsPla
 
     -- the node goes by its key in the cells, and its successor by a link of them
     pub lift_end : (past : List Event) (slot : ℕ) → c n KeyField ≡ k → c q link ≡ s → ((c' : Cells) → IsLifted c c' n q link s → IsPlainTree slots c' (without k ps))
-        → IsRightEnd IsPlainTree slots c past (without k ps) (lifted target_at (place_at q link s) (c s KeyField) (c s ValueField) (c s Right)) slot
+        → IsRightEnd IsPlainTree slots c past (without k ps) (lifted target_at (place_in q link s) (c s KeyField) (c s ValueField) (c s Right)) slot
     lift_end past slot key hangs leaves =
-        let End : List Add → Type 0 = λ more. IsRightEnd IsPlainTree slots c past (without k ps) (lifted_with target_at (place_at q link s) (c s KeyField) (c s ValueField) (c s Right) more) slot in
+        let End : List Add → Type 0 = λ more. IsRightEnd IsPlainTree slots c past (without k ps) (lifted_with target_at (place_in q link s) (c s KeyField) (c s ValueField) (c s Right) more) slot in
         let node_n : IsNode slots n = (omega arith, omega arith) in
         let node_s : IsNode slots s = (omega arith, omega arith) in
         let small : (f : Field) → c s f < 2 ^ 62 = λ f. ready.fits.words s f is_s.1 in

@@ -26,7 +26,7 @@ use Rattle.pc_bst.specs.WalkLawful.{StepStands, Waits, walk_stands, waits_lawful
 use Rattle.pc_bst.specs.WalkAbove.{CameFrom, CameAfter, came_stands}
 use Rattle.pc_bst.specs.ToldNodes.{ToldAbove, ToldPlace, ToldTarget, above_visit, place_read, target_visit, target_read}
 use Rattle.pc_bst.specs.UnlinkLawful.{unlink_lawful, lift_lawful}
-use Rattle.pc_bst.specs.Removes.{remove_of, given_up, place_of, remove_walked, gone_below, target_of, link_of, chosen, followed, remove_moves}
+use Rattle.pc_bst.specs.Removes.{remove_of, given_up, place_at, remove_walked, gone_below, target_of, link_of, chosen, followed, remove_moves}
 
 -- a field of a node that was visited is read, after so many reads since then
 pub record Reads (past : List Event) (p : Place) (f : Field) (few : ℕ) (a : Ask) : Type 0 where
@@ -74,7 +74,7 @@ walked_keeps : (past : List Event) (above : Above) (from w : Walk) (s : Step) �
 walked_keeps past above from w (Visit n) h came = (h, λ ne. came)
 walked_keeps past above from w (Read n f) h came = (h, came)
 walked_keeps past above from w Found h came =
-    let reading : RemovePhase × Ask = (ReadingLeft (place_of above w) w.key, AskRead w.node Left) in ⊎_elim
+    let reading : RemovePhase × Ask = (ReadingLeft (place_at above w.node w.version) w.key, AskRead w.node Left) in ⊎_elim
     (λ same. subst (RemoveKeeps past) (sym (cond-true (w.node == above.node) given_up reading same)) tt)
     (λ differs. let apart : w.node ≢ above.node = eqb-false w.node above.node differs in
     subst (RemoveKeeps past) (sym (cond-false (w.node == above.node) given_up reading differs))

@@ -30,11 +30,11 @@ use Rattle.pc_bst.specs.declared.unlink.Place.{Place}
 use Rattle.pc_bst.specs.declared.unlink.Target.{Target}
 use Rattle.pc_bst.specs.declared.remove.RemovePhase.{RemovePhase}
 use Rattle.pc_bst.specs.declared.remove.RemovePhase.TheVariants.{Walking, ReadingLeft, ReadingValue, Visiting, ReadingNextKey, Ended}
-use Rattle.pc_bst.specs.Removes.{remove_call, above_of, remove_of, given_up, place_of, remove_walked, gone_below, link_of, chosen, followed, remove_moves}
+use Rattle.pc_bst.specs.Removes.{remove_call, above_of, remove_of, given_up, remove_walked, gone_below, link_of, chosen, followed, remove_moves}
 use Rattle.pc_bst.specs.Unlinks.{unlinked}
 use Rattle.pc_bst.specs.PlainTrees.{IsPlainTree}
 use Rattle.pc_bst.specs.WalkCourses.{IsUnseen, walk_at, walk_course}
-use Rattle.pc_bst.specs.RemoveEnds.{place_at, unlink_end, lift_end}
+use Rattle.pc_bst.specs.RemoveEnds.{place_in, unlink_end, lift_end}
 
 -- a link to another node than these is followed
 goes_below : (t : Target) (a : Above) (n : ℕ) → n ≢ t.node → n ≢ a.node → gone_below t a n ≡ (Visiting t a n, AskVisit n)
@@ -81,7 +81,7 @@ module _ (slots : ℕ) (c : Cells) (ps : Pairs) (k : ℕ) (ready : IsReady IsPla
         let here : IsTreeNode plain slots c q m = spelled.1 in
         let is : IsSlot slots m = here.slot in
         let is_m : IsNode slots m = (omega arith, omega arith) in
-        let p : Place = place_at slots c ps k ready q side' m in
+        let p : Place = place_in slots c ps k ready q side' m in
         let ends : followed target p (node_at (c m Left)) ≡ (ReadingNextKey target p, AskRead m KeyField) = ap (λ (x : ℕ). followed target p (node_at x)) spelled.2 in
         let past2 : List Event = found m Left (c m Left) ∷ visited m (c m VersionField) ∷ past in
         let go : Goes 3 past2 (ReadingNextKey target p, AskRead m KeyField) = (
@@ -107,7 +107,7 @@ module _ (slots : ℕ) (c : Cells) (ps : Pairs) (k : ℕ) (ready : IsReady IsPla
         let below : IsTreeNode plain slots c m x = spelled.2.1 in
         let is_x : IsSlot slots x = below.slot in
         let sides : Apart c m (Fork x a b') b = apart_from_rising c m (Fork x a b') b rising in
-        let p : Place = place_at slots c ps k ready q side' m in
+        let p : Place = place_in slots c ps k ready q side' m in
         let on : Above = link_of p Left in
         let few : slots ≤ 61000 = ready.few in
         let named : node_at (c m Left) ≡ Some x = ap node_at spelled.2.0 ∙ node_at-node x (omega arith) (omega arith) in
@@ -121,10 +121,10 @@ module _ (slots : ℕ) (c : Cells) (ps : Pairs) (k : ℕ) (ready : IsReady IsPla
 
   -- once the node's links and its value are read
   chosen_goes : (l r : Tree) (above : ℕ) (side : Field) (n : ℕ) (past : List Event) → Hole plain slots c ps tree.tree k above side (Fork n l r) → (side ≡ Left) ⊎ (side ≡ Right) → c n KeyField ≡ k → IsUnseen r past
-      → Goes (2 * slots + 3) past (chosen (place_at slots c ps k ready above side n) k (c n Left) (c n Right) (c n ValueField) (node_at (c n Left)) (node_at (c n Right)))
+      → Goes (2 * slots + 3) past (chosen (place_in slots c ps k ready above side n) k (c n Left) (c n Right) (c n ValueField) (node_at (c n Left)) (node_at (c n Right)))
   chosen_goes Empty r above side n past h link key unseen =
       let is : IsSlot slots n = h.spelled.1.slot in
-      let p : Place = place_at slots c ps k ready above side n in
+      let p : Place = place_in slots c ps k ready above side n in
       let e : chosen p k (c n Left) (c n Right) (c n ValueField) (node_at (c n Left)) (node_at (c n Right)) ≡ (Ended, AskChange (unlinked p (c n Right) (c n ValueField))) =
       ap (λ (x : ℕ). chosen p k (c n Left) (c n Right) (c n ValueField) (node_at x) (node_at (c n Right))) h.spelled.2 in
       subst (Goes (2 * slots + 3) past) (sym e) (
@@ -135,7 +135,7 @@ module _ (slots : ℕ) (c : Cells) (ps : Pairs) (k : ℕ) (ready : IsReady IsPla
       let is : IsSlot slots n = h.spelled.1.slot in
       let is_m : IsSlot slots m = h.spelled.2.1.slot in
       let few : slots ≤ 61000 = ready.few in
-      let p : Place = place_at slots c ps k ready above side n in
+      let p : Place = place_in slots c ps k ready above side n in
       let named : node_at (c n Left) ≡ Some m = ap node_at h.spelled.2.0 ∙ node_at-node m (omega arith) (omega arith) in
       let none : node_at (c n Right) ≡ None = ap node_at h.spelled.3 in
       let e : chosen p k (c n Left) (c n Right) (c n ValueField) (node_at (c n Left)) (node_at (c n Right)) ≡ (Ended, AskChange (unlinked p (c n Left) (c n ValueField))) =
@@ -151,7 +151,7 @@ module _ (slots : ℕ) (c : Cells) (ps : Pairs) (k : ℕ) (ready : IsReady IsPla
       let is_x : IsSlot slots x = h.spelled.3.1.slot in
       let few : slots ≤ 61000 = ready.few in
       let sides : Apart c n l (Fork x d e) = hole_apart plain slots c ps tree.tree k above side n l (Fork x d e) tree.rising h in
-      let p : Place = place_at slots c ps k ready above side n in
+      let p : Place = place_in slots c ps k ready above side n in
       let t : Target = target above side n l (Fork x d e) h link key in
       let on : Above = link_of p Right in
       let named_l : node_at (c n Left) ≡ Some m = ap node_at h.spelled.2.0 ∙ node_at-node m (omega arith) (omega arith) in
@@ -169,11 +169,11 @@ module _ (slots : ℕ) (c : Cells) (ps : Pairs) (k : ℕ) (ready : IsReady IsPla
 
   -- from the node with the key on
   found_goes : (past : List Event) (above : ℕ) (side : Field) (n : ℕ) (l r : Tree) → Hole plain slots c ps tree.tree k above side (Fork n l r) → (side ≡ Left) ⊎ (side ≡ Right) → c n KeyField ≡ k → IsUnseen r past
-      → Goes (suc (suc (suc (2 * slots + 3)))) past (remove_walked (place_at slots c ps k ready above side n).above (walk_at k n (c n VersionField) AKey) (walk_at k n (c n VersionField) AKey) Found)
+      → Goes (suc (suc (suc (2 * slots + 3)))) past (remove_walked (place_in slots c ps k ready above side n).above (walk_at k n (c n VersionField) AKey) (walk_at k n (c n VersionField) AKey) Found)
   found_goes past above side n l r h link key unseen =
       let is : IsSlot slots n = h.spelled.1.slot in
       let is_n : IsNode slots n = (omega arith, omega arith) in
-      let p : Place = place_at slots c ps k ready above side n in
+      let p : Place = place_in slots c ps k ready above side n in
       let reading : RemovePhase × Ask = (ReadingLeft p k, AskRead n Left) in
       let goes : (if n == above then given_up else reading) ≡ reading = cond-false (n == above) given_up reading (ne_eqb n above (λ e. h.apart (inl (sym e)))) in
       let past3 : List Event = found n ValueField (c n ValueField) ∷ found n Right (c n Right) ∷ found n Left (c n Left) ∷ past in

@@ -37,18 +37,26 @@ above_of w = record { node = w.node; version = w.version; side = link_awaited w.
 abbrev pub remove_of : ℕ → RemovePhase
 remove_of k = Walking (walk_of k) (above_of (walk_of k))
 
-abbrev pub given_up : RemovePhase × Ask
-given_up = (Ended, Answer Nothing)
+-- it reads a field and comes to this phase
+abbrev pub reading : RemovePhase → ℕ → Field → RemovePhase × Ask
+reading phase n f = (phase, AskRead n f)
 
--- the node that a walk has come to
-abbrev pub place_of : Above → Walk → Place
-place_of above w = record { above = above; node = w.node; version = w.version }
+-- it ends by this ask
+abbrev pub ending : Ask → RemovePhase × Ask
+ending a = (Ended, a)
+
+abbrev pub given_up : RemovePhase × Ask
+given_up = ending (Answer Nothing)
+
+-- a node below another one, visited at a version
+abbrev pub place_at : Above → ℕ → ℕ → Place
+place_at above n version = record { above = above; node = n; version = version }
 
 -- a remove that has walked on: at the key it reads the node, and where the key is missing it answers
 abbrev pub remove_walked : Above → Walk → Walk → Step → RemovePhase × Ask
 remove_walked above from w (Visit n) = (Walking w (above_of from), AskVisit n)
-remove_walked above from w (Read n f) = (Walking w above, AskRead n f)
-remove_walked above from w Found = if w.node == above.node then given_up else (ReadingLeft (place_of above w) w.key, AskRead w.node Left)
+remove_walked above from w (Read n f) = reading (Walking w above) n f
+remove_walked above from w Found = if w.node == above.node then given_up else reading (ReadingLeft (place_at above w.node w.version) w.key) w.node Left
 remove_walked above from w (Missing f link) = given_up
 remove_walked above from w Astray = given_up
 
@@ -66,23 +74,23 @@ link_of p side = record { node = p.node; version = p.version; side = side }
 
 -- a node with at most one child is unlinked, and one with two waits for its successor
 abbrev pub chosen : Place → ℕ → ℕ → ℕ → ℕ → Option ℕ → Option ℕ → RemovePhase × Ask
-chosen p key left right value None below = (Ended, Change (unlinked p right value))
-chosen p key left right value (Some l) None = (Ended, Change (unlinked p left value))
+chosen p key left right value None below = ending (Change (unlinked p right value))
+chosen p key left right value (Some l) None = ending (Change (unlinked p left value))
 chosen p key left right value (Some l) (Some r) = gone_below (target_of p key value) (link_of p Right) r
 
 -- it goes left as long as there is a node, and then reads the successor
 abbrev pub followed : Target → Place → Option ℕ → RemovePhase × Ask
-followed t p None = (ReadingNextKey t p, AskRead p.node KeyField)
+followed t p None = reading (ReadingNextKey t p) p.node KeyField
 followed t p (Some n) = gone_below t (link_of p Left) n
 
 abbrev pub remove_moves : RemovePhase → Told → RemovePhase × Ask
 remove_moves (Walking w above) t = remove_walked above w (walk_step w t).0 (walk_step w t).1
-remove_moves (ReadingLeft p key) (Number left) = (ReadingRight p key left, AskRead p.node Right)
-remove_moves (ReadingRight p key left) (Number right) = (ReadingValue p key left right, AskRead p.node ValueField)
+remove_moves (ReadingLeft p key) (Number left) = reading (ReadingRight p key left) p.node Right
+remove_moves (ReadingRight p key left) (Number right) = reading (ReadingValue p key left right) p.node ValueField
 remove_moves (ReadingValue p key left right) (Number value) = chosen p key left right value (node_at left) (node_at right)
-remove_moves (Visiting t above n) (Version v) = (ReadingNext t (record { above = above; node = n; version = v }), AskRead n Left)
+remove_moves (Visiting t above n) (Version v) = reading (ReadingNext t (place_at above n v)) n Left
 remove_moves (ReadingNext t p) (Number left) = followed t p (node_at left)
-remove_moves (ReadingNextKey t p) (Number key) = (ReadingNextValue t p key, AskRead p.node ValueField)
-remove_moves (ReadingNextValue t p key) (Number value) = (ReadingNextRight t p key value, AskRead p.node Right)
-remove_moves (ReadingNextRight t p key value) (Number right) = (Ended, Change (lifted t p key value right))
+remove_moves (ReadingNextKey t p) (Number key) = reading (ReadingNextValue t p key) p.node ValueField
+remove_moves (ReadingNextValue t p key) (Number value) = reading (ReadingNextRight t p key value) p.node Right
+remove_moves (ReadingNextRight t p key value) (Number right) = ending (Change (lifted t p key value right))
 remove_moves _ _ = given_up

@@ -10,21 +10,11 @@ use Rattle.pc_plan.specs.Lawful.{IsSide, AreToldWords, Adds, AreOnce, AddsVersio
 use Rattle.pc_plan.proofs.Learning.{is_some-seen}
 use Rattle.pc_bst.specs.declared.unlink.Place.{Place}
 use Rattle.pc_bst.specs.declared.unlink.Target.{Target}
+use Rattle.pc_bst.specs.LinkFields.{IsLinkOnly, link_only}
 use Rattle.pc_bst.specs.Versions.{raised}
 use Rattle.pc_bst.specs.VersionLaws.{raise_told, mark_told}
 use Rattle.pc_bst.specs.Unlinks.{unlinked, lifted, lifted_with, raised_above}
 use Rattle.pc_bst.specs.ToldNodes.{ToldPlace, ToldTarget}
-
--- a link is no version, key or value
-record IsLinkOnly (side : Field) : Type 0 where
-  version : side ≢ VersionField
-  key : side ≢ KeyField
-  value : side ≢ ValueField
-
-link_only : (side : Field) → IsSide side → IsLinkOnly side
-link_only side is_side = ⊎_elim
-    (λ l. subst IsLinkOnly (sym l) (record { version = λ e. absurd (cc); key = λ e. absurd (cc); value = λ e. absurd (cc) }))
-    (λ r. subst IsLinkOnly (sym r) (record { version = λ e. absurd (cc); key = λ e. absurd (cc); value = λ e. absurd (cc) })) is_side
 
 pub unlink_lawful : (past : List Event) (p : Place) (child value : ℕ) → ToldPlace past p → IsLawfulChange past (unlinked p child value)
 unlink_lawful past p child value h =

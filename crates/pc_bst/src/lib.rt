@@ -8,6 +8,10 @@ mod get;
 mod plan_tests;
 mod put;
 mod remove;
+#[cfg(test)]
+mod remove_tests;
+#[cfg(test)]
+mod test_helpers;
 mod unlink;
 mod version;
 mod walk;

@@ -1,14 +1,10 @@
 //! The plans as they are told a small table of cells by hand, and as they run on plain cells.
-ghost use Rattle.std.specs.Prelude.{◌≤◌, IfOk};
-ghost use Rattle.pc_plain.specs.PlainRuns.{HoldsPairs};
-ghost use Rattle.pc_bst.specs.PlainTrees.{IsPlainTree};
-
 use crate::get::BstGet;
 use crate::put::BstPut;
-use pc_model::{Call, Field, Memory, Reply};
-use pc_plain::{NoPlainSlot, PlainCells, pairs, run_plan};
-use pc_plan::{Add, Ask, Change, Fresh, Plan, To, Told};
-use std::alloc::Global;
+use crate::test_helpers::{asks_for, change_in, listed, opened, run};
+use pc_model::{Call, Field, Reply};
+use pc_plain::NoPlainSlot;
+use pc_plan::{Add, Ask, Fresh, Plan, To, Told};
 use std::test::Fail;
 
 // The table has the sentinel, node 1, with node 2 on its left; node 2 has key 10, value 100 and
@@ -20,21 +16,6 @@ const TO_NODE_2: [(Told, u32, Option<Field>); 4] = [
     (Told::Number(2), 2, None),
     (Told::Version(0), 2, Some(Field::Key)),
 ];
-
-fn asks_for(ask: &Ask, node: u32, field: Option<Field>) -> bool {
-    match ask {
-        Ask::Visit(visited) => field == None && *visited == node,
-        Ask::Read(read, which) => field == Some(*which) && *read == node,
-        Ask::Change(_) | Ask::Answer(_) => false,
-    }
-}
-
-fn change_in(ask: Ask) -> Option<Change> {
-    match ask {
-        Ask::Change(change) => Some(change),
-        _ => None,
-    }
-}
 
 #[test]
 fn get_asks_for_the_value_of_its_key(rt: HostRuntime) {
@@ -115,32 +96,6 @@ fn put_of_a_present_key_changes_its_value(rt: HostRuntime) -> Result<(), Fail> {
         Some(Call::Put { key: 10, value: 7 })
     );
     Ok(())
-}
-
-// Cells of an empty tree, as cells with some pairs.
-fn opened(alloc: Global, slots: u32) -> Result<PlainCells, Memory>
-    requires { slots ≤ 61000 }
-    ensures { IfOk result (HoldsPairs IsPlainTree) }
-{
-    PlainCells::new(alloc, slots)
-}
-
-// Runs a plan on cells with some pairs, which leaves cells with some pairs.
-fn run<P: Plan>(cells: &mut PlainCells, call: P::Call) -> Result<Reply, NoPlainSlot>
-    requires call { P.can_call call }
-    requires sound { HoldsPairs P.sound cells.old }
-    ensures { HoldsPairs P.sound cells.new }
-{
-    match run_plan::<P>(cells, call) {
-        Ok(reply) => Ok(reply),
-        Err(full) => Err(full),
-    }
-}
-
-fn listed(alloc: Global, cells: &PlainCells) -> Result<Vec<(u64, u64)>, Memory>
-    requires { HoldsPairs IsPlainTree cells.now }
-{
-    pairs(alloc, cells)
 }
 
 #[test]

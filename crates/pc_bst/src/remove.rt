@@ -92,43 +92,35 @@ impl Plan for BstRemove {
         match (self.phase, told) {
             (RemovePhase::Walking(walk, above), told) => self.walk_on(walk, above, told),
             (RemovePhase::ReadingLeft(place, key), Told::Number(left)) => {
-                self.phase = RemovePhase::ReadingRight(place, key, left);
-                Ask::Read(place.node, Field::Right)
+                let phase = RemovePhase::ReadingRight(place, key, left);
+                self.read(phase, place.node, Field::Right)
             }
             (RemovePhase::ReadingRight(place, key, left), Told::Number(right)) => {
-                self.phase = RemovePhase::ReadingValue(place, key, left, right);
-                Ask::Read(place.node, Field::Value)
+                let phase = RemovePhase::ReadingValue(place, key, left, right);
+                self.read(phase, place.node, Field::Value)
             }
             (RemovePhase::ReadingValue(place, key, left, right), Told::Number(value)) => {
                 self.choose(place, key, left, right, value)
             }
             (RemovePhase::Visiting(target, above, node), Told::Version(version)) => {
-                self.phase = RemovePhase::ReadingNext(
-                    target,
-                    Place {
-                        above,
-                        node,
-                        version,
-                    },
-                );
-                Ask::Read(node, Field::Left)
+                let phase = RemovePhase::ReadingNext(target, above.place(node, version));
+                self.read(phase, node, Field::Left)
             }
             (RemovePhase::ReadingNext(target, place), Told::Number(left)) => {
                 self.follow(target, place, left)
             }
             (RemovePhase::ReadingNextKey(target, next), Told::Number(key)) => {
-                self.phase = RemovePhase::ReadingNextValue(target, next, key);
-                Ask::Read(next.node, Field::Value)
+                let phase = RemovePhase::ReadingNextValue(target, next, key);
+                self.read(phase, next.node, Field::Value)
             }
             (RemovePhase::ReadingNextValue(target, next, key), Told::Number(value)) => {
-                self.phase = RemovePhase::ReadingNextRight(target, next, key, value);
-                Ask::Read(next.node, Field::Right)
+                let phase = RemovePhase::ReadingNextRight(target, next, key, value);
+                self.read(phase, next.node, Field::Right)
             }
             (RemovePhase::ReadingNextRight(target, next, key, value), Told::Number(right)) => {
-                self.phase = RemovePhase::Ended;
-                Ask::Change(lift(target, next, key, value, right))
+                self.end(Ask::Change(lift(target, next, key, value, right)))
             }
-            _ => self.give_up(),
+            _ => self.end(Ask::Answer(Reply::None)),
         }
     }
 
@@ -143,7 +135,7 @@ impl Plan for BstRemove {
 
 impl BstRemove {
     ghost use Rattle.pc_model.specs.Cells.{node_at};
-    ghost use Rattle.pc_bst.specs.Removes.{remove_moves, given_up, chosen, gone_below, followed};
+    ghost use Rattle.pc_bst.specs.Removes.{reading, ending, remove_moves, chosen, gone_below, followed};
     ghost use Rattle.pc_bst.specs.declared.remove.RemovePhase.TheVariants.{Walking};
 
     /// Tells the walk something, and asks for what it does next.
@@ -157,20 +149,16 @@ impl BstRemove {
                 self.phase = RemovePhase::Walking(walk, Above::left_by(from));
                 Ask::Visit(node)
             }
-            Step::Read(node, field) => {
-                self.phase = RemovePhase::Walking(walk, above);
-                Ask::Read(node, field)
-            }
+            Step::Read(node, field) => self.read(RemovePhase::Walking(walk, above), node, field),
             Step::Found if walk.node != above.node => {
-                let place = Place {
-                    above,
-                    node: walk.node,
-                    version: walk.version,
-                };
-                self.phase = RemovePhase::ReadingLeft(place, walk.key);
-                Ask::Read(walk.node, Field::Left)
+                let place = above.place(walk.node, walk.version);
+                self.read(
+                    RemovePhase::ReadingLeft(place, walk.key),
+                    walk.node,
+                    Field::Left,
+                )
             }
-            Step::Found | Step::Missing(_, _) | Step::Astray => self.give_up(),
+            Step::Found | Step::Missing(_, _) | Step::Astray => self.end(Ask::Answer(Reply::None)),
         }
     }
 
@@ -186,21 +174,10 @@ impl BstRemove {
                     key,
                     value,
                 };
-                let above = Above {
-                    node: place.node,
-                    version: place.version,
-                    side: Field::Right,
-                };
-                self.go_below(target, above, below)
+                self.go_below(target, place.link(Field::Right), below)
             }
-            (Some(_), None) => {
-                self.phase = RemovePhase::Ended;
-                Ask::Change(unlink(place, left, value))
-            }
-            (None, _) => {
-                self.phase = RemovePhase::Ended;
-                Ask::Change(unlink(place, right, value))
-            }
+            (Some(_), None) => self.end(Ask::Change(unlink(place, left, value))),
+            (None, _) => self.end(Ask::Change(unlink(place, right, value))),
         }
     }
 
@@ -209,37 +186,38 @@ impl BstRemove {
         ensures { (self.new, result) ≡ followed target place (node_at left) }
     {
         match node_of(left) {
-            Some(below) => {
-                let above = Above {
-                    node: place.node,
-                    version: place.version,
-                    side: Field::Left,
-                };
-                self.go_below(target, above, below)
-            }
-            None => {
-                self.phase = RemovePhase::ReadingNextKey(target, place);
-                Ask::Read(place.node, Field::Key)
-            }
+            Some(below) => self.go_below(target, place.link(Field::Left), below),
+            None => self.read(
+                RemovePhase::ReadingNextKey(target, place),
+                place.node,
+                Field::Key,
+            ),
         }
     }
 
-    /// Visits a node on the way to the successor. A link that leads back to the target, or to its own
-    /// node, is none of a tree.
+    /// Visits a node on the way to the successor. No tree has a link that leads back to the target, or
+    /// to its own node.
     fn go_below(&mut self, target: Target, above: Above, node: u32) -> Ask
         ensures { (self.new, result) ≡ gone_below target above node }
     {
         if node == target.node || node == above.node {
-            return self.give_up();
+            return self.end(Ask::Answer(Reply::None));
         }
         self.phase = RemovePhase::Visiting(target, above, node);
         Ask::Visit(node)
     }
 
-    fn give_up(&mut self) -> Ask
-        ensures { (self.new, result) ≡ given_up }
+    fn read(&mut self, phase: RemovePhase, node: u32, field: Field) -> Ask
+        ensures { (self.new, result) ≡ reading phase node field }
+    {
+        self.phase = phase;
+        Ask::Read(node, field)
+    }
+
+    fn end(&mut self, ask: Ask) -> Ask
+        ensures { (self.new, result) ≡ ending ask }
     {
         self.phase = RemovePhase::Ended;
-        Ask::Answer(Reply::None)
+        ask
     }
 }

@@ -17,7 +17,7 @@ pub struct Above {
 }
 
 impl Above {
-    ghost use Rattle.pc_bst.specs.Removes.{above_of};
+    ghost use Rattle.pc_bst.specs.Removes.{above_of, place_at};
 
     /// The node that a walk leaves by the link that it waits for.
     pub fn left_by(walk: Walk) -> Above
@@ -33,6 +33,17 @@ impl Above {
             side,
         }
     }
+
+    /// The node below, visited at this version.
+    pub fn place(self, node: u32, version: u64) -> Place
+        ensures { result ≡ place_at self node version }
+    {
+        Place {
+            above: self,
+            node,
+            version,
+        }
+    }
 }
 
 /// A node that was visited at a version, and the node above it.
@@ -41,6 +52,21 @@ pub struct Place {
     pub above: Above,
     pub node: u32,
     pub version: u64,
+}
+
+impl Place {
+    ghost use Rattle.pc_bst.specs.Removes.{link_of};
+
+    /// One of the two links of the node.
+    pub fn link(self, side: Field) -> Above
+        ensures { result ≡ link_of self side }
+    {
+        Above {
+            node: self.node,
+            version: self.version,
+            side,
+        }
+    }
 }
 
 /// A node that was visited at a version, with the key and the value that it is to lose.
