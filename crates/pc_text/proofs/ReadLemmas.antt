@@ -1,12 +1,12 @@
 -- One pass over the lines: what is read off all of them is what the lines so far gave, with what is
 -- read off those that are left.
-use Rattle.std.proofs.Common.{◌≡◌, ◌≢◌, ℕ, ◌+◌, ◌-◌, ◌<◌, ◌≤◌, true, false, nat_lt, max, List, [], ◌∷◌, ◌++◌, length, get_or, take, drop, set, map, replicate, Some, None, Result, Ok, Err, refl, ap, sym, ◌∙◌, arith, append_assoc, All, append-nil, length-take, length-drop, inl, inr}
-use Rattle.std.proofs.lemmas.Bool.{lt-ltb, le-ltb, ne_eqb, eq-eqb, ltb-true, ltb-false, cases_lt, cases_eq}
+use Rattle.std.proofs.Common.{◌≡◌, ◌≢◌, ℕ, ◌+◌, ◌-◌, ◌<◌, ◌≤◌, true, false, nat_lt, max, List, [], ◌∷◌, ◌++◌, length, get_or, take, drop, set, map, Some, Ok, Err, refl, ap, sym, ◌∙◌, arith, append_assoc, All, append-nil, length-drop, inl, inr}
+use Rattle.std.proofs.lemmas.Bool.{lt-ltb, le-ltb, ne_eqb, eq-eqb, cases_lt, cases_eq}
 use Rattle.std.proofs.lemmas.List.{drop_all, take_all, get_or-take, get_or-set_same, get_or-set_other, get_or_past, length-set, length-take-le, length_push, ext_get_or}
 use Rattle.std.proofs.lemmas.List.Elements.{All-nil, All-push, All-set, All-get_or, All-take}
 use Rattle.std.proofs.lemmas.List.FromFn.{get_or-map-range_with_len, length-map-range_with_len}
 use Rattle.std.proofs.lemmas.List.Splits.{length-slice_split, slice_split_first, slice_split_none}
-use Rattle.std.proofs.lemmas.List.Sums.{fails_before_first, sum_by-set, sum_by-le, sum_by-take-le, prefix_len-le-length}
+use Rattle.std.proofs.lemmas.List.Sums.{fails_before_first, sum_by-set, sum_by-le, sum_by-take-le}
 use Rattle.std.specs.Int.{IsInRange}
 use Rattle.std.specs.List.{position_or_len, range_with_len, slice_split, sum_by}
 use Rattle.std.specs.Prelude.{◌==◌}
@@ -20,7 +20,6 @@ use Rattle.pc_text.specs.Lines.{without_empty_last, lines_of}
 use Rattle.pc_text.specs.Script.{classes_of, first_bad, clients_of, calls_of, script_of_classes, script_unless, script_of}
 use Rattle.pc_text.specs.ScriptFacts.{IsCallInRange, AreFew, AreInRange}
 use Rattle.pc_text.specs.ScriptLine.{class_of}
-use Rattle.pc_text.specs.ScriptValue.{ScriptValue}
 
 -- ---- the first line
 

@@ -1,5 +1,5 @@
 -- Commands that are written read back.
-use Rattle.std.proofs.Common.{◌≡◌, ℕ, suc, ◌+◌, ◌-◌, ◌<◌, ◌≤◌, ◌^◌, Bool, true, false, not, nat_le, nat_lt, List, [], ◌∷◌, ◌++◌, length, get_or, map, Some, None, Ok, refl, sym, ap, ◌∙◌, arith, All, append-nil, lit<}
+use Rattle.std.proofs.Common.{◌≡◌, ℕ, suc, ◌+◌, ◌-◌, ◌<◌, ◌≤◌, ◌^◌, true, false, not, nat_lt, List, [], ◌∷◌, ◌++◌, length, get_or, map, None, Ok, refl, sym, ap, ◌∙◌, arith, All, append-nil, lit<}
 use Rattle.std.specs.Prelude.{codes, ◌==◌}
 use Rattle.std.proofs.lemmas.Bool.{true≢false, ne_eqb, lt-ltb, le-leb, or_from, or_right, and_from, not-true}
 use Rattle.std.proofs.lemmas.Fmt.{digits_decimal, digits_value-decimal, decimal_nonempty}
@@ -7,7 +7,7 @@ use Rattle.std.proofs.lemmas.Grind.{get_or_default_zero}
 use Rattle.std.proofs.lemmas.List.Folds.{list_all-append}
 use Rattle.std.proofs.lemmas.List.Splits.{length-slice_split, slice_split_at}
 use Rattle.std.proofs.lemmas.List.Sums.{AllPass-from_list_all, list_all-from_AllPass}
-use Rattle.std.proofs.lemmas.Str.Parse.{IsNumeralModel, IsDigitsTest, numerals_by_value, tells_by_index}
+use Rattle.std.proofs.lemmas.Str.Parse.{IsNumeralModel, numerals_by_value, tells_by_index}
 use Rattle.std.specs.Char.{is_ascii_digit}
 use Rattle.std.specs.Fmt.{decimal}
 use Rattle.std.specs.Int.{IsInRange}
@@ -19,7 +19,6 @@ use Rattle.pc_model.specs.declared.call.Call.TheVariants.{Put, Get, Remove, Ceil
 use Rattle.pc_text.proofs.NumberLemmas.{tells_list_all}
 use Rattle.pc_text.proofs.ReadLemmas.{without_empty_last-more}
 use Rattle.pc_text.proofs.WordsLemmas.{words_of-blank, words_of-word}
-use Rattle.pc_text.specs.declared.line.Keyword.TheVariants.{Put as PutWord, Get as GetWord, Remove as RemoveWord, Ceil as CeilWord, Floor as FloorWord}
 use Rattle.pc_text.specs.declared.line.LineClass.{LineClass}
 use Rattle.pc_text.specs.declared.line.LineClass.TheVariants.{Command}
 use Rattle.pc_text.specs.Lines.{without_empty_last, lines_of}

@@ -1,4 +1,4 @@
-use Rattle.std.proofs.Common.{◌≡◌, ◌-◌, ◌<◌, ◌∷◌, [], ◌++◌, ◌∙◌, ap, sym, length, map, set, arith}
+use Rattle.std.proofs.Common.{◌-◌, ◌<◌, ◌∷◌, [], ◌++◌, ◌∙◌, ap, sym, length, map, set, arith}
 use Rattle.std.proofs.lemmas.List.{map-set, get_or-map}
 use Rattle.pc_text.proofs.read.add_call.Goals as goal
 

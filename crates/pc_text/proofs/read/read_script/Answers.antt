@@ -1,11 +1,11 @@
 -- Each line's class goes one step further; what is left in the end is nothing.
-use Rattle.std.proofs.Common.{◌≡◌, ◌+◌, ◌<◌, ◌≤◌, [], List, ap, sym, ◌∙◌, arith, length, map, take, subst, Ok, Vec, Global, ℕ}
+use Rattle.std.proofs.Common.{◌≡◌, [], List, ap, sym, ◌∙◌, arith, map, take, subst, Ok, Vec, Global, ℕ}
 use Rattle.std.proofs.lemmas.List.{length-map, take-map}
 use Rattle.std.proofs.lemmas.List.Elements.{All-map}
 use Rattle.pc_model.specs.declared.call.Call.{Call}
 use Rattle.pc_text.specs.declared.line.LineClass.TheVariants.{Skip, Turn, Command, Bad}
 use Rattle.pc_text.specs.ScriptFacts.{AreInRange}
-use Rattle.pc_text.proofs.ReadLemmas.{Reads, reads, has_read_none, has_read_skip, has_read_turn, has_read_command, bad_at, full_at, IsRead, is_read}
+use Rattle.pc_text.proofs.ReadLemmas.{reads, has_read_none, has_read_skip, has_read_turn, has_read_command, bad_at, full_at, is_read}
 use Rattle.pc_text.proofs.read.read_script.Goals as goal
 
 pub loop-rest-init : goal.loop-rest-init

@@ -1,6 +1,6 @@
 use Rattle.std.proofs.Common.{ℕ, ◌<◌, ◌-◌, arith, length, List, take, drop}
 use Rattle.std.proofs.lemmas.List.{take_rest}
-use Rattle.pc_text.proofs.WordsLemmas.{BeginsWord, begins_word_at, words_of-only_blanks}
+use Rattle.pc_text.proofs.WordsLemmas.{begins_word_at, words_of-only_blanks}
 use Rattle.pc_text.proofs.words.first_word.Goals as goal
 
 pub returns-then-start-line : goal.returns-then-start-line

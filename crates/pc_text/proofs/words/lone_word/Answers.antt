@@ -1,4 +1,4 @@
-use Rattle.std.proofs.Common.{◌≡◌, ◌<◌, ap, ◌∷◌, ◌∙◌, arith, length}
+use Rattle.std.proofs.Common.{◌<◌, ap, ◌∷◌, ◌∙◌, arith, length}
 use Rattle.pc_text.specs.ScriptWords.{words_of}
 use Rattle.pc_text.proofs.WordsLemmas.{has_word, words_of-only_blanks}
 use Rattle.pc_text.proofs.words.lone_word.Goals as goal
