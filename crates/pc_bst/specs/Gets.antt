@@ -1,5 +1,5 @@
 -- The plan of a get, as a machine.
-use Rattle.std.specs.Prelude.{ℕ, ◌≤◌, Option, Some}
+use Rattle.std.specs.Prelude.{ℕ, Option, Some}
 use Rattle.pc_model.specs.declared.cell.Field.TheVariants.{Value as ValueField}
 use Rattle.pc_model.specs.declared.call.Call.{Call}
 use Rattle.pc_model.specs.declared.call.Call.TheVariants.{Get}

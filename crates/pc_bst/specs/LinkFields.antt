@@ -1,5 +1,5 @@
 -- What the link to the left or to the right isn't, and that it takes a number that fits.
-use Rattle.std.proofs.Common.{◌≡◌, ◌≢◌, ℕ, ◌^◌, ◌<◌, ⊎_elim, sym, subst}
+use Rattle.std.proofs.Common.{◌≢◌, ℕ, ◌^◌, ◌<◌, ⊎_elim, sym, subst}
 use Rattle.pc_model.specs.declared.cell.Field.{Field}
 use Rattle.pc_model.specs.declared.cell.Field.TheVariants.{Version as VersionField, Key as KeyField, Value as ValueField}
 use Rattle.pc_plan.specs.declared.change.To.TheVariants.{Number as ToNumber}

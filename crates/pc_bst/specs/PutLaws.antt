@@ -1,7 +1,6 @@
 -- The laws of a put.
-use Rattle.std.proofs.Common.{◌≡◌, ◌≢◌, ℕ, ◌+◌, ◌*◌, ◌%◌, ◌^◌, ◌<◌, ◌≤◌, ◌==◌, if◌then◌else◌, ◌⊎◌, inl, inr, ⊎_elim, List, [], ◌∷◌, length, Option, Some, None, refl, sym, ap, ◌∙◌, subst, arith}
+use Rattle.std.proofs.Common.{◌≡◌, ◌≢◌, ℕ, ◌+◌, ◌*◌, ◌%◌, ◌^◌, ◌<◌, ◌≤◌, ◌==◌, if◌then◌else◌, ◌⊎◌, inl, inr, ⊎_elim, List, [], ◌∷◌, length, Some, None, refl, sym, ap, ◌∙◌, subst, arith}
 use Rattle.std.proofs.lemmas.Bool.{cases_eq, eq-eqb, ne_eqb, cond-true, cond-false}
-use Rattle.std.specs.Prelude.{◌-◌, min}
 use Rattle.pc_model.specs.declared.call.Call.TheVariants.{Put}
 use Rattle.pc_model.specs.declared.cell.Field.{Field}
 use Rattle.pc_model.specs.declared.cell.Field.TheVariants.{Version as VersionField, Key as KeyField, Value as ValueField, Left, Right}
@@ -10,7 +9,7 @@ use Rattle.pc_model.specs.Cells.{Cells, IsEven, IsOdd, IsSlot, IsNode}
 use Rattle.pc_model.specs.Trees.{Tree, Empty, Fork, plain, IsTreeNode}
 use Rattle.pc_model.proofs.Holes.{Hole}
 use Rattle.pc_model.proofs.HolePairs.{value_at-hole, value_at-empty_hole}
-use Rattle.pc_plan.specs.declared.change.To.TheVariants.{Number as ToNumber, Fresh as ToFresh}
+use Rattle.pc_plan.specs.declared.change.To.TheVariants.{Fresh as ToFresh}
 use Rattle.pc_plan.specs.declared.plan.Ask.{Ask}
 use Rattle.pc_plan.specs.declared.plan.Ask.TheVariants.{Read as AskRead}
 use Rattle.pc_plan.specs.declared.plan.Told.{Told}
@@ -22,7 +21,7 @@ use Rattle.pc_bst.specs.declared.put.PutPhase.{PutPhase}
 use Rattle.pc_bst.specs.declared.put.PutPhase.TheVariants.{Walking, Reading, Ended}
 use Rattle.pc_plan.specs.Planned.{Planned}
 use Rattle.pc_plan.specs.Traces.{Event, found, learned, learned_along, after, version_seen, number_seen, reads_since_visit}
-use Rattle.pc_plan.specs.Lawful.{IsSide, IsWord, IsToldWord, IsLawfulAsk, IsLawfulChange, IsLawful}
+use Rattle.pc_plan.specs.Lawful.{IsSide, IsWord, IsLawfulAsk, IsLawfulChange, IsLawful}
 use Rattle.pc_plan.proofs.Learning.{kept_along, is_some-seen, number_seen-here}
 use Rattle.pc_bst.specs.WalkLawful.{StepStands, Waits, walk_stands, waits_lawful}
 use Rattle.pc_plan.specs.Runs.{Runs, IsReady, FitsWord}

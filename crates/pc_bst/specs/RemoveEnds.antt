@@ -1,19 +1,17 @@
 -- The exchanges of a remove on a search tree: each stands, and leaves the tree without the key.
-use Rattle.std.proofs.Common.{◌≡◌, ◌≢◌, ℕ, ◌+◌, ◌-◌, ◌%◌, ◌^◌, ◌<◌, ◌≤◌, ◌==◌, ◌⊎◌, inl, inr, ⊎_elim, if◌then◌else◌, List, [], ◌∷◌, Some, None, refl, sym, ap, ◌∙◌, subst, arith}
-use Rattle.std.specs.Prelude.{min}
-use Rattle.std.proofs.lemmas.Bool.{cases_eq, cases_Bool, eq-eqb, ne_eqb, eqb-true, eqb-false, cond-true, cond-false}
+use Rattle.std.proofs.Common.{◌≡◌, ◌≢◌, ℕ, ◌%◌, ◌^◌, ◌<◌, ◌==◌, ◌⊎◌, inl, ⊎_elim, if◌then◌else◌, List, [], ◌∷◌, refl, sym, ap, ◌∙◌, subst, arith}
+use Rattle.std.proofs.lemmas.Bool.{cases_eq, cases_Bool, eq-eqb, ne_eqb, cond-true, cond-false}
 use Rattle.pc_model.specs.declared.cell.Field.{Field}
 use Rattle.pc_model.specs.declared.cell.Field.TheVariants.{Version as VersionField, Key as KeyField, Value as ValueField, Left, Right}
 use Rattle.pc_model.specs.Map.{Pairs, without}
-use Rattle.pc_model.specs.Cells.{Cells, IsEven, IsOdd, IsSlot, IsNode, field_number, written}
-use Rattle.pc_model.specs.Trees.{Tree, Fork, plain, IsTreeNode, IsSearchTree}
+use Rattle.pc_model.specs.Cells.{Cells, IsEven, IsOdd, IsSlot, IsNode, written}
+use Rattle.pc_model.specs.Trees.{Tree, Fork, plain, IsTreeNode}
 use Rattle.pc_model.proofs.Writes.{written-here, written-other_node, written-other_field}
 use Rattle.pc_model.proofs.Holes.{Hole}
-use Rattle.pc_model.proofs.Removal.{IsUnlinked, IsFirst, IsLifted, lifted as lifted_tree}
+use Rattle.pc_model.proofs.Removal.{IsUnlinked, IsLifted}
 use Rattle.pc_plain.proofs.KeptCells.{same_field}
-use Rattle.pc_plan.specs.declared.change.To.TheVariants.{Number as ToNumber}
 use Rattle.pc_plan.specs.declared.change.Add.{Add}
-use Rattle.pc_plan.specs.Runs.{IsReady, FitsWord}
+use Rattle.pc_plan.specs.Runs.{IsReady}
 use Rattle.pc_plan.specs.Traces.{Event}
 use Rattle.pc_plan.proofs.Courses.{IsRightEnd}
 use Rattle.pc_bst.specs.declared.unlink.Place.{Place}
@@ -152,8 +150,8 @@ module _ (slots : ℕ) (c : Cells) (ps : Pairs) (k : ℕ) (ready : IsReady IsPla
       marked = ap (λ (x : ℕ). x % 2) (but.versions s not_q) ∙ marked_s;
     }
 
-    but_none : q ≡ n → IsBut with_mark
-    but_none e = record { fields = λ m f ver. refl; versions = λ m ne. refl; parity = version_parity q (λ d. not_q (sym d)) }
+    but_none : IsBut with_mark
+    but_none = record { fields = λ m f ver. refl; versions = λ m ne. refl; parity = version_parity q (λ d. not_q (sym d)) }
 
     -- the cells where the version of q is raised too
     abbrev with_above : Cells
@@ -178,13 +176,13 @@ module _ (slots : ℕ) (c : Cells) (ps : Pairs) (k : ℕ) (ready : IsReady IsPla
         let node_s : IsNode slots s = (omega arith, omega arith) in
         let small : (f : Field) → c s f < 2 ^ 62 = λ f. ready.fits.words s f is_s.1 in
         ⊎_elim
-        (λ same. let but : IsBut with_mark = but_none (eqb-true q n same) in
+        (λ same.
         subst End (sym (cond-true (q == n) [] (raised q (c q VersionField) ∷ []) same))
         (record {
           changes = (refl, (key, (refl, (hangs, (refl, tt)))));
           taken = tt;
-          leaves = leaves with_mark (but_lifted with_mark but);
-          parity = λ m is. marked_parity c with_mark s marked_s (but_parity with_mark but) m;
+          leaves = leaves with_mark (but_lifted with_mark but_none);
+          parity = λ m is. marked_parity c with_mark s marked_s (but_parity with_mark but_none) m;
           marked = (is_s, even_s);
           words = ((node_n, tt), ((node_n, small KeyField), ((node_n, small ValueField), ((is_q, link_fits link (c s Right) is_link (small Right)), ((node_s, tt), tt)))));
           fresh = tt;

@@ -10,7 +10,7 @@ use Rattle.pc_plan.specs.declared.plan.Ask.{Ask}
 use Rattle.pc_plan.specs.declared.plan.Ask.TheVariants.{Visit as AskVisit, Read as AskRead}
 use Rattle.pc_plan.specs.declared.plan.Told.{Told}
 use Rattle.pc_plan.specs.declared.plan.Told.TheVariants.{Begin, Version, Number}
-use Rattle.pc_plan.specs.Traces.{Event, visited, found, learned, learned_along, after, version_seen, number_seen, reads_since_visit}
+use Rattle.pc_plan.specs.Traces.{Event, found, learned, learned_along, after, number_seen, reads_since_visit}
 use Rattle.pc_plan.specs.Lawful.{WasToldOf, IsWord, IsLawfulAsk, IsLawful}
 use Rattle.pc_plan.proofs.Learning.{kept_along, is_some-seen, version_seen-here, number_seen-here, number_seen-other}
 use Rattle.pc_bst.specs.declared.walk.Walk.{Walk}

@@ -1,12 +1,11 @@
 -- The laws of a remove on sound cells.
-use Rattle.std.proofs.Common.{◌≡◌, ◌≢◌, ℕ, suc, ◌+◌, ◌*◌, ◌^◌, ◌<◌, ◌≤◌, ◌==◌, ◌⊎◌, inl, inr, ⊎_elim, if◌then◌else◌, List, [], ◌∷◌, length, Some, None, refl, sym, ap, ◌∙◌, subst, arith}
+use Rattle.std.proofs.Common.{◌≡◌, ◌≢◌, ℕ, suc, ◌+◌, ◌*◌, ◌≤◌, ◌==◌, ◌⊎◌, inl, inr, if◌then◌else◌, List, [], ◌∷◌, length, Some, None, refl, sym, ap, ◌∙◌, subst, arith}
 use Rattle.std.proofs.lemmas.Bool.{ne_eqb, cond-false}
 use Rattle.pc_model.specs.declared.call.Call.TheVariants.{Remove}
-use Rattle.pc_model.specs.declared.call.Reply.{Reply}
-use Rattle.pc_model.specs.declared.call.Reply.TheVariants.{Value, None as Nothing}
+use Rattle.pc_model.specs.declared.call.Reply.TheVariants.{Value}
 use Rattle.pc_model.specs.declared.cell.Field.{Field}
 use Rattle.pc_model.specs.declared.cell.Field.TheVariants.{Version as VersionField, Key as KeyField, Value as ValueField, Left, Right}
-use Rattle.pc_model.specs.Map.{Pairs, IsRising, IsKey, value_at, value_or_nothing, without}
+use Rattle.pc_model.specs.Map.{Pairs, IsRising, IsKey, value_at, value_or_nothing}
 use Rattle.pc_model.specs.Cells.{Cells, IsEven, IsSlot, IsNode, node_at}
 use Rattle.pc_model.specs.Trees.{Tree, Empty, Fork, plain, IsTreeNode, Spells, IsIn, size_of, pairs_of, IsSearchTree}
 use Rattle.pc_model.proofs.Links.{node_at-node}
@@ -14,22 +13,21 @@ use Rattle.pc_model.proofs.Counting.{size-le-slots}
 use Rattle.pc_model.proofs.Framing.{Apart, apart_from_rising}
 use Rattle.pc_model.proofs.Holes.{Hole, hole_apart}
 use Rattle.pc_model.proofs.HolePairs.{value_at-hole, value_at-empty_hole, without-empty_hole}
-use Rattle.pc_model.proofs.Removal.{IsUnlinked, IsFirst, IsLifted, unlinked_left, unlinked_right, lifted as lifted_tree}
+use Rattle.pc_model.proofs.Removal.{IsFirst, unlinked_left, unlinked_right, lifted as lifted_tree}
 use Rattle.pc_plan.specs.declared.plan.Ask.{Ask}
 use Rattle.pc_plan.specs.declared.plan.Ask.TheVariants.{Visit as AskVisit, Read as AskRead, Change as AskChange}
-use Rattle.pc_plan.specs.declared.plan.Told.TheVariants.{Begin, Version, Number}
+use Rattle.pc_plan.specs.declared.plan.Told.TheVariants.{Begin}
 use Rattle.pc_plan.specs.Traces.{Event, visited, found}
 use Rattle.pc_plan.specs.Runs.{Runs, IsReady}
-use Rattle.pc_plan.proofs.Courses.{Course, IsRightEnd, more_turns, course_goes, course_ends}
+use Rattle.pc_plan.proofs.Courses.{Course, more_turns, course_goes, course_ends}
 use Rattle.pc_plan.proofs.Learning.{version_seen-else}
 use Rattle.pc_bst.specs.declared.walk.Awaited.TheVariants.{Key as AKey}
-use Rattle.pc_bst.specs.declared.walk.Walk.{Walk}
 use Rattle.pc_bst.specs.declared.walk.Step.TheVariants.{Found}
 use Rattle.pc_bst.specs.declared.unlink.Above.{Above}
 use Rattle.pc_bst.specs.declared.unlink.Place.{Place}
 use Rattle.pc_bst.specs.declared.unlink.Target.{Target}
 use Rattle.pc_bst.specs.declared.remove.RemovePhase.{RemovePhase}
-use Rattle.pc_bst.specs.declared.remove.RemovePhase.TheVariants.{Walking, ReadingLeft, ReadingValue, Visiting, ReadingNextKey, Ended}
+use Rattle.pc_bst.specs.declared.remove.RemovePhase.TheVariants.{Walking, ReadingLeft, Visiting, ReadingNextKey, Ended}
 use Rattle.pc_bst.specs.Removes.{remove_call, above_of, remove_of, given_up, remove_walked, gone_below, link_of, chosen, followed, remove_moves}
 use Rattle.pc_bst.specs.Unlinks.{unlinked}
 use Rattle.pc_bst.specs.PlainTrees.{IsPlainTree}

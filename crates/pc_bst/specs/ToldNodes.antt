@@ -1,6 +1,6 @@
 -- What a remove was told of a node above, of a place and of a target, and that it stays told where
 -- other nodes are visited and read.
-use Rattle.std.proofs.Common.{◌≡◌, ◌≢◌, ℕ, ◌^◌, ◌<◌, ◌≤◌, List, ◌∷◌, Some, sym, ◌∙◌}
+use Rattle.std.proofs.Common.{◌≡◌, ◌≢◌, ℕ, ◌^◌, ◌<◌, List, ◌∷◌, Some, ◌∙◌}
 use Rattle.pc_model.specs.declared.cell.Field.{Field}
 use Rattle.pc_model.specs.declared.cell.Field.TheVariants.{Key as KeyField, Value as ValueField}
 use Rattle.pc_plan.specs.Traces.{Event, visited, found, version_seen, number_seen}

@@ -1,19 +1,18 @@
 -- The exchanges of a remove are lawful after what it was told.
-use Rattle.std.proofs.Common.{◌≡◌, ◌≢◌, ℕ, ◌==◌, ◌⊎◌, inl, inr, ⊎_elim, List, [], ◌∷◌, Some, None, refl, sym, ap, ◌∙◌, subst, arith}
+use Rattle.std.proofs.Common.{◌≡◌, ◌≢◌, ℕ, ◌==◌, inl, inr, ⊎_elim, List, [], ◌∷◌, Some, None, refl, sym, ◌∙◌, subst}
 use Rattle.std.proofs.lemmas.Bool.{cases_Bool, eqb-false, eqb-true, cond-true, cond-false}
 use Rattle.pc_model.specs.declared.cell.Field.{Field}
-use Rattle.pc_model.specs.declared.cell.Field.TheVariants.{Version as VersionField, Key as KeyField, Value as ValueField, Left, Right}
+use Rattle.pc_model.specs.declared.cell.Field.TheVariants.{Version as VersionField, Key as KeyField, Value as ValueField}
 use Rattle.pc_plan.specs.declared.change.Add.{Add}
-use Rattle.pc_plan.specs.Planned.{Planned}
 use Rattle.pc_plan.specs.Traces.{Event}
-use Rattle.pc_plan.specs.Lawful.{IsSide, AreToldWords, Adds, AreOnce, AddsVersions, NamesFresh, IsLawfulChange}
+use Rattle.pc_plan.specs.Lawful.{AreToldWords, Adds, AreOnce, AddsVersions, NamesFresh, IsLawfulChange}
 use Rattle.pc_plan.proofs.Learning.{is_some-seen}
 use Rattle.pc_bst.specs.declared.unlink.Place.{Place}
 use Rattle.pc_bst.specs.declared.unlink.Target.{Target}
 use Rattle.pc_bst.specs.LinkFields.{IsLinkOnly, link_only}
 use Rattle.pc_bst.specs.Versions.{raised}
 use Rattle.pc_bst.specs.VersionLaws.{raise_told, mark_told}
-use Rattle.pc_bst.specs.Unlinks.{unlinked, lifted, lifted_with, raised_above}
+use Rattle.pc_bst.specs.Unlinks.{unlinked, lifted, lifted_with}
 use Rattle.pc_bst.specs.ToldNodes.{ToldPlace, ToldTarget}
 
 pub unlink_lawful : (past : List Event) (p : Place) (child value : ℕ) → ToldPlace past p → IsLawfulChange past (unlinked p child value)

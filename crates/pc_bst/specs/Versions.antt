@@ -1,5 +1,5 @@
 -- The versions of the nodes of an exchange, which go up with it and stay below the end of numbers.
-use Rattle.std.specs.Prelude.{ℕ, ◌+◌, ◌-◌, ◌^◌, ◌≤◌, min}
+use Rattle.std.specs.Prelude.{ℕ, ◌+◌, ◌-◌, ◌^◌, min}
 use Rattle.pc_model.specs.declared.cell.Field.TheVariants.{Version as VersionField}
 use Rattle.pc_plan.specs.declared.change.To.TheVariants.{Number as ToNumber}
 use Rattle.pc_plan.specs.declared.change.Add.{Add}

@@ -1,12 +1,12 @@
 -- What holds of a walk whatever it is told: the fact about its state, its ask and what it learned that
 -- each of its steps keeps, for every plan that begins with it.
-use Rattle.std.proofs.Common.{◌≡◌, ◌≢◌, ℕ, ◌^◌, ◌<◌, ◌≤◌, ◌==◌, ◌⊎◌, inl, inr, ⊎_elim, if◌then◌else◌, List, [], ◌∷◌, Option, Some, None, refl, sym, ap, ◌∙◌, subst, arith}
-use Rattle.std.specs.Prelude.{IsSome, is_some, nat_lt}
+use Rattle.std.proofs.Common.{◌≡◌, ◌≢◌, ℕ, ◌^◌, ◌<◌, ◌≤◌, ◌==◌, ◌⊎◌, inl, inr, ⊎_elim, if◌then◌else◌, List, ◌∷◌, Option, Some, None, refl, sym, ap, ◌∙◌, subst, arith}
+use Rattle.std.specs.Prelude.{IsSome, nat_lt}
 use Rattle.pc_model.specs.Cells.{node_at}
 use Rattle.pc_model.proofs.Links.{node_at-some}
-use Rattle.std.proofs.lemmas.Bool.{cases_Bool, eq-eqb, eqb-false, cond-true, cond-false}
+use Rattle.std.proofs.lemmas.Bool.{cases_Bool, cond-true, cond-false}
 use Rattle.pc_model.specs.declared.cell.Field.{Field}
-use Rattle.pc_model.specs.declared.cell.Field.TheVariants.{Key as KeyField, Left, Right, Parent}
+use Rattle.pc_model.specs.declared.cell.Field.TheVariants.{Key as KeyField, Left, Right}
 use Rattle.pc_plan.specs.declared.plan.Ask.{Ask}
 use Rattle.pc_plan.specs.declared.plan.Ask.TheVariants.{Visit as AskVisit, Read as AskRead, Change as AskChange, Answer as AskAnswer}
 use Rattle.pc_plan.specs.declared.plan.Told.{Told}
@@ -16,7 +16,7 @@ use Rattle.pc_bst.specs.declared.walk.Awaited.TheVariants.{Version as AVersion, 
 use Rattle.pc_bst.specs.declared.walk.Walk.{Walk}
 use Rattle.pc_bst.specs.declared.walk.Step.{Step}
 use Rattle.pc_bst.specs.declared.walk.Step.TheVariants.{Visit, Read, Found, Missing, Astray}
-use Rattle.pc_plan.specs.Traces.{Event, visited, found, learned, after, learned_along, version_seen, number_seen, reads_since_visit}
+use Rattle.pc_plan.specs.Traces.{Event, visited, found, learned, version_seen, number_seen, reads_since_visit}
 use Rattle.pc_plan.specs.Lawful.{WasToldOf, IsSide, IsWord, IsLawfulAsk}
 use Rattle.pc_plan.proofs.Learning.{version_seen-here, number_seen-here, is_some-seen, is_link}
 use Rattle.pc_bst.specs.Walks.{reading_link, arriving, comparing, following, step_at, walk_step}

@@ -152,11 +152,8 @@ impl BstRemove {
             Step::Read(node, field) => self.read(RemovePhase::Walking(walk, above), node, field),
             Step::Found if walk.node != above.node => {
                 let place = above.place(walk.node, walk.version);
-                self.read(
-                    RemovePhase::ReadingLeft(place, walk.key),
-                    walk.node,
-                    Field::Left,
-                )
+                let phase = RemovePhase::ReadingLeft(place, walk.key);
+                self.read(phase, walk.node, Field::Left)
             }
             Step::Found | Step::Missing(_, _) | Step::Astray => self.end(Ask::Answer(Reply::None)),
         }
@@ -187,11 +184,10 @@ impl BstRemove {
     {
         match node_of(left) {
             Some(below) => self.go_below(target, place.link(Field::Left), below),
-            None => self.read(
-                RemovePhase::ReadingNextKey(target, place),
-                place.node,
-                Field::Key,
-            ),
+            None => {
+                let phase = RemovePhase::ReadingNextKey(target, place);
+                self.read(phase, place.node, Field::Key)
+            }
         }
     }
 
