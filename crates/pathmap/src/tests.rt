@@ -201,6 +201,9 @@ fn a_script_has_at_most_60_000_commands(rt: HostRuntime) -> Result<(), Fail> {
     let mut source = source_of(gets(alloc, 60_001)?, 1_000_000, Vec::new(alloc));
     let mut sink = MemorySink::with_room(alloc, 1000, 1000).expect(&rt, "ample memory");
     assert_eq!(rt; status_of_run(&rt, alloc, &mut source, &mut sink)?, 3);
-    assert_eq!(rt; sink.held.as_slice(), b"fault line 60001 too many lines\n".as_slice());
+    assert_eq!(rt;
+        sink.held.as_slice(),
+        b"fault line 60001 too many lines\n".as_slice()
+    );
     Ok(())
 }
