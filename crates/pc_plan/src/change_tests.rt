@@ -44,9 +44,13 @@ fn words_and_charges_stand_in_their_order(rt: HostRuntime) {
 fn a_change_holds_24_words_and_4_charges(rt: HostRuntime) {
     let mut change = Change::new(Reply::None);
     for _ in 0..24 {
+        let room = change.adds().len() < 24;
+        assert!(rt; room);
         change.push(VERSION);
     }
     for key in 0..4 {
+        let room = change.charged().len() < 4;
+        assert!(rt; room);
         change.charge(key);
     }
     assert_eq!(rt; change.adds().len(), 24);
