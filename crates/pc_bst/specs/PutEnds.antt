@@ -4,36 +4,18 @@ use Rattle.std.proofs.lemmas.Bool.{cases_eq}
 use Rattle.pc_model.specs.declared.cell.Field.{Field}
 use Rattle.pc_model.specs.declared.cell.Field.TheVariants.{Version as VersionField, Key as KeyField, Value as ValueField, Left, Right, Parent, Height}
 use Rattle.pc_model.specs.Map.{Pairs, put}
-use Rattle.pc_model.specs.Cells.{Cells, IsEven, IsOdd, IsSlot, IsNode, field_number, written, with_node}
+use Rattle.pc_model.specs.Cells.{Cells, IsEven, IsOdd, IsSlot, IsNode, written, with_node}
 use Rattle.pc_model.specs.Trees.{Tree, Empty, Fork, plain, IsTreeNode, Spells, IsIn, pairs_of, IsSearchTree}
 use Rattle.pc_model.proofs.SortedLists.{put_rises, put_small}
-use Rattle.pc_model.proofs.Writes.{written-here, written-other_node, written-other_field, with_node-here, with_node-other}
+use Rattle.pc_model.proofs.Writes.{written-here, written-other_node, written-else, with_node-here, with_node-other}
 use Rattle.pc_model.proofs.Framing.{Apart, tree_node_same, spells_same, pairs_same}
 use Rattle.pc_model.proofs.Holes.{Hole, Framed, other_link, hole_apart, refilled}
+use Rattle.pc_model.proofs.Links.{IsLinkAlone, link_alone}
 use Rattle.pc_model.proofs.HolePairs.{put-hole, put-empty_hole}
 use Rattle.pc_plan.specs.declared.change.Fresh.{Fresh}
 use Rattle.pc_plan.specs.Runs.{IsReady, fresh_fields}
 use Rattle.pc_bst.specs.VersionLaws.{two_more, two_more-parity}
 use Rattle.pc_bst.specs.PlainTrees.{IsPlainTree}
-
--- what a link's number is not
-pub record IsLinkField (side : Field) : Type 0 where
-  pub version : field_number VersionField ≢ field_number side
-  pub key : field_number KeyField ≢ field_number side
-  pub value : field_number ValueField ≢ field_number side
-  pub parent : field_number Parent ≢ field_number side
-  pub height : field_number Height ≢ field_number side
-  pub other : field_number (other_link side) ≢ field_number side
-  pub other_version : field_number (other_link side) ≢ field_number VersionField
-
-left_is_link : IsLinkField Left
-left_is_link = record { version = λ e. absurd (omega (arith, e)); key = λ e. absurd (omega (arith, e)); value = λ e. absurd (omega (arith, e)); parent = λ e. absurd (omega (arith, e)); height = λ e. absurd (omega (arith, e)); other = λ e. absurd (omega (arith, e)); other_version = λ e. absurd (omega (arith, e)) }
-
-right_is_link : IsLinkField Right
-right_is_link = record { version = λ e. absurd (omega (arith, e)); key = λ e. absurd (omega (arith, e)); value = λ e. absurd (omega (arith, e)); parent = λ e. absurd (omega (arith, e)); height = λ e. absurd (omega (arith, e)); other = λ e. absurd (omega (arith, e)); other_version = λ e. absurd (omega (arith, e)) }
-
-is_link_field : (side : Field) → (side ≡ Left) ⊎ (side ≡ Right) → IsLinkField side
-is_link_field side link = ⊎_elim (λ e. subst IsLinkField (sym e) left_is_link) (λ e. subst IsLinkField (sym e) right_is_link) link
 
 module _ (slots : ℕ) (c : Cells) (ps : Pairs) (k value : ℕ) (ready : IsReady IsPlainTree slots c ps) (small_key : k ≤ 999999999999999999) (small_value : value ≤ 999999999999999999) where
   -- the cells where the value of a node is changed
@@ -115,20 +97,20 @@ module _ (slots : ℕ) (c : Cells) (ps : Pairs) (k value : ℕ) (ready : IsReady
     with_leaf-link : with_leaf n side slot n side ≡ slot
     with_leaf-link = written-here n side slot (written n VersionField (two_more (c n VersionField)) (with_node slot (fresh_fields (c slot VersionField) leaf) c))
 
-    with_leaf-version : IsLinkField side → with_leaf n side slot n VersionField ≡ two_more (c n VersionField)
-    with_leaf-version link = written-other_field n side slot (written n VersionField (two_more (c n VersionField)) (with_node slot (fresh_fields (c slot VersionField) leaf) c)) n VersionField link.version
+    with_leaf-version : IsLinkAlone side → with_leaf n side slot n VersionField ≡ two_more (c n VersionField)
+    with_leaf-version link = written-else n side slot (written n VersionField (two_more (c n VersionField)) (with_node slot (fresh_fields (c slot VersionField) leaf) c)) n VersionField (λ _. link.version)
         ∙ written-here n VersionField (two_more (c n VersionField)) (with_node slot (fresh_fields (c slot VersionField) leaf) c)
 
-    with_leaf-field : (f : Field) → n ≢ slot → field_number f ≢ field_number side → field_number f ≢ field_number VersionField → with_leaf n side slot n f ≡ c n f
-    with_leaf-field f ne not_side not_version = written-other_field n side slot (written n VersionField (two_more (c n VersionField)) (with_node slot (fresh_fields (c slot VersionField) leaf) c)) n f not_side
-        ∙ written-other_field n VersionField (two_more (c n VersionField)) (with_node slot (fresh_fields (c slot VersionField) leaf) c) n f not_version
+    with_leaf-field : (f : Field) → n ≢ slot → f ≢ side → f ≢ VersionField → with_leaf n side slot n f ≡ c n f
+    with_leaf-field f ne not_side not_version = written-else n side slot (written n VersionField (two_more (c n VersionField)) (with_node slot (fresh_fields (c slot VersionField) leaf) c)) n f (λ _. not_side)
+        ∙ written-else n VersionField (two_more (c n VersionField)) (with_node slot (fresh_fields (c slot VersionField) leaf) c) n f (λ _. not_version)
         ∙ with_node-other slot (fresh_fields (c slot VersionField) leaf) c n f ne
 
     -- each slot but the leaf's keeps its parity, and the leaf's is in use
     pub with_leaf-parity : (m : ℕ) → (side ≡ Left) ⊎ (side ≡ Right) → n ≤ slots + 1 → n ≢ slot → m ≢ slot → with_leaf n side slot m VersionField % 2 ≡ c m VersionField % 2
     with_leaf-parity m link le ne ne' = ⊎_elim
         (λ e. let small : c n VersionField < 2 ^ 60 = ready.fits.versions n le in
-        subst (λ (x : ℕ). with_leaf n side slot x VersionField % 2 ≡ c x VersionField % 2) (sym e) (ap (λ (x : ℕ). x % 2) (with_leaf-version (is_link_field side link)) ∙ two_more-parity (c n VersionField) small))
+        subst (λ (x : ℕ). with_leaf n side slot x VersionField % 2 ≡ c x VersionField % 2) (sym e) (ap (λ (x : ℕ). x % 2) (with_leaf-version (link_alone side link)) ∙ two_more-parity (c n VersionField) small))
         (λ other. ap (λ (x : ℕ). x % 2) (with_leaf-other m VersionField other ne')) (cases_eq m n)
 
     pub with_leaf-even : n ≢ slot → IsOdd (c slot VersionField) → with_leaf n side slot slot VersionField % 2 ≡ 0
@@ -139,16 +121,16 @@ module _ (slots : ℕ) (c : Cells) (ps : Pairs) (k value : ℕ) (ready : IsReady
   leaf_leaves above side slot h link is_slot odd =
       let s : IsSearchTree plain slots c ps = ready.is_sound in
       let c' : Cells = with_leaf above side slot in
-      let facts : IsLinkField side = is_link_field side link in
+      let facts : IsLinkAlone side = link_alone side link in
       let apart : above ≢ slot = λ e. let even : c slot VersionField % 2 ≡ 0 = subst (λ (x : ℕ). IsEven (c x VersionField)) e h.unmarked in absurd (omega arith) in
       let node : IsNode slots above = h.node in
       let version : c' above VersionField % 2 ≡ c above VersionField % 2 = with_leaf-parity above side slot above link node.1 apart apart in
       let framed : Framed slots c c' above side Empty = record {
         elsewhere = λ m is even out ne f. with_leaf-other above side slot m f ne (λ e. let even' : c slot VersionField % 2 ≡ 0 = subst (λ (x : ℕ). IsEven (c x VersionField)) e even in absurd (omega arith));
-        key = with_leaf-field above side slot KeyField apart facts.key (λ e. absurd (omega (arith, e)));
-        value = with_leaf-field above side slot ValueField apart facts.value (λ e. absurd (omega (arith, e)));
-        parent = with_leaf-field above side slot Parent apart facts.parent (λ e. absurd (omega (arith, e)));
-        height = with_leaf-field above side slot Height apart facts.height (λ e. absurd (omega (arith, e)));
+        key = with_leaf-field above side slot KeyField apart facts.key (λ e. absurd (cc));
+        value = with_leaf-field above side slot ValueField apart facts.value (λ e. absurd (cc));
+        parent = with_leaf-field above side slot Parent apart facts.parent (λ e. absurd (cc));
+        height = with_leaf-field above side slot Height apart facts.height (λ e. absurd (cc));
         other = with_leaf-field above side slot (other_link side) apart facts.other facts.other_version;
         unmarked = version ∙ h.unmarked;
       } in

@@ -8,6 +8,7 @@ use Rattle.pc_model.specs.Map.{Pairs, IsPair, value_at, put, was_or_new}
 use Rattle.pc_model.specs.Cells.{Cells, IsEven, IsOdd, IsSlot, IsNode}
 use Rattle.pc_model.specs.Trees.{Tree, Empty, Fork, plain, IsTreeNode}
 use Rattle.pc_model.proofs.Holes.{Hole}
+use Rattle.pc_model.proofs.Links.{link_alone}
 use Rattle.pc_model.proofs.HolePairs.{value_at-hole, value_at-empty_hole}
 use Rattle.pc_plan.specs.declared.change.To.TheVariants.{Fresh as ToFresh}
 use Rattle.pc_plan.specs.declared.plan.Ask.{Ask}
@@ -27,7 +28,6 @@ use Rattle.pc_bst.specs.WalkLawful.{StepStands, Waits, walk_stands, waits_lawful
 use Rattle.pc_plan.specs.Runs.{Runs, IsReady, FitsWord}
 use Rattle.pc_bst.specs.Walks.{walk_step}
 use Rattle.pc_bst.specs.Puts.{put_call, put_of, put_walked, put_moves, value_changed, leaf_added}
-use Rattle.pc_bst.specs.LinkFields.{link_only}
 use Rattle.pc_bst.specs.VersionLaws.{raise_told}
 use Rattle.pc_bst.specs.PlainTrees.{IsPlainTree}
 use Rattle.pc_plan.proofs.Courses.{Course, IsRightEnd, course_goes, course_ends}
@@ -106,7 +106,7 @@ PutKeeps past s = PutStands past s.0 s.1
 leaf_lawful : (past : List Event) (n version : ℕ) (side : Field) (link key value : ℕ) → version_seen n past ≡ Some version → version < 2 ^ 62 → IsSide side → number_seen n side past ≡ Some link
     → IsLawfulChange past (leaf_added n version side link key value)
 leaf_lawful past n version side link key value seen small is_side read =
-    let not_version : side ≢ VersionField = (link_only side is_side).version in
+    let not_version : side ≢ VersionField = λ e. (link_alone side is_side).version (sym e) in
     record {
       some = λ e. absurd (cc);
       told = (raise_told past None n version seen small, (inr (not_version, is_some-seen n version past seen, read), tt));

@@ -6,25 +6,21 @@ use Rattle.pc_model.specs.declared.cell.Field.TheVariants.{Version as VersionFie
 use Rattle.pc_model.specs.Map.{Pairs, without}
 use Rattle.pc_model.specs.Cells.{Cells, IsEven, IsOdd, IsSlot, IsNode, written}
 use Rattle.pc_model.specs.Trees.{Tree, Fork, plain, IsTreeNode}
-use Rattle.pc_model.proofs.Writes.{written-here, written-other_node, written-other_field}
+use Rattle.pc_model.proofs.Writes.{written-here, written-other_node, written-else}
 use Rattle.pc_model.proofs.Holes.{Hole}
+use Rattle.pc_model.proofs.Links.{link_alone}
 use Rattle.pc_model.proofs.Removal.{IsUnlinked, IsLifted}
-use Rattle.pc_plain.proofs.KeptCells.{same_field}
 use Rattle.pc_plan.specs.declared.change.Add.{Add}
 use Rattle.pc_plan.specs.Runs.{IsReady}
 use Rattle.pc_plan.specs.Traces.{Event}
 use Rattle.pc_plan.proofs.Courses.{IsRightEnd}
 use Rattle.pc_bst.specs.declared.unlink.Place.{Place}
 use Rattle.pc_bst.specs.declared.unlink.Target.{Target}
-use Rattle.pc_bst.specs.LinkFields.{link_only, link_fits}
+use Rattle.pc_bst.specs.LinkFields.{link_fits}
 use Rattle.pc_bst.specs.Versions.{raised}
 use Rattle.pc_bst.specs.VersionLaws.{two_more, one_more, two_more-parity, one_more-odd}
 use Rattle.pc_bst.specs.Unlinks.{unlinked, lifted, lifted_with}
 use Rattle.pc_bst.specs.PlainTrees.{IsPlainTree}
-
--- a word that isn't the written one
-written-else : (n : ℕ) (f : Field) (v : ℕ) (c : Cells) (m : ℕ) (g : Field) → (m ≡ n → g ≢ f) → written n f v c m g ≡ c m g
-written-else n f v c m g ne = ⊎_elim (λ e. written-other_field n f v c m g (λ d. ne e (same_field g f d))) (λ d. written-other_node n f v c m g d) (cases_eq m n)
 
 -- one node is marked, and the versions of the others keep their parity
 marked_parity : (c c' : Cells) (s : ℕ) → IsOdd (c' s VersionField) → ((m : ℕ) → m ≢ s → c' m VersionField % 2 ≡ c m VersionField % 2)
@@ -48,7 +44,7 @@ module _ (slots : ℕ) (c : Cells) (ps : Pairs) (k : ℕ) (ready : IsReady IsPla
       record {
         link = written-other_node n VersionField v c2 a side apart ∙ written-here a side child c1;
         rest = λ f not_side not_ver. written-other_node n VersionField v c2 a f apart ∙ written-else a side child c1 a f (λ _. not_side) ∙ written-else a VersionField (two_more (c a VersionField)) c a f (λ _. not_ver);
-        unmarked = ap (λ (x : ℕ). x % 2) (written-other_node n VersionField v c2 a VersionField apart ∙ written-else a side child c1 a VersionField (λ _ e. (link_only side link).version (sym e)) ∙ written-here a VersionField (two_more (c a VersionField)) c)
+        unmarked = ap (λ (x : ℕ). x % 2) (written-other_node n VersionField v c2 a VersionField apart ∙ written-else a side child c1 a VersionField (λ _ e. (link_alone side link).version e) ∙ written-here a VersionField (two_more (c a VersionField)) c)
             ∙ two_more-parity (c a VersionField) (ready.fits.versions a is_a.1) ∙ even_a;
         marked = ap (λ (x : ℕ). x % 2) (written-here n VersionField v c2) ∙ one_more-odd (c n VersionField) (ready.fits.versions n is_n.1) even_n;
         elsewhere = λ m not_a not_n f. written-other_node n VersionField v c2 m f not_n ∙ written-other_node a side child c1 m f not_a ∙ written-other_node a VersionField (two_more (c a VersionField)) c m f not_a;
@@ -100,11 +96,11 @@ module _ (slots : ℕ) (c : Cells) (ps : Pairs) (k : ℕ) (ready : IsReady IsPla
     with_mark = written s VersionField (one_more (c s VersionField)) with_link
 
     key_up : with_mark n KeyField ≡ c s KeyField
-    key_up = written-else s VersionField (one_more (c s VersionField)) with_link n KeyField (λ e. absurd (not_n (sym e))) ∙ written-else q link (c s Right) with_value n KeyField (λ _ e. (link_only link is_link).key (sym e))
+    key_up = written-else s VersionField (one_more (c s VersionField)) with_link n KeyField (λ e. absurd (not_n (sym e))) ∙ written-else q link (c s Right) with_value n KeyField (λ _ e. (link_alone link is_link).key e)
         ∙ written-else n ValueField (c s ValueField) with_key n KeyField (λ _ e. absurd (cc)) ∙ written-here n KeyField (c s KeyField) with_version
 
     value_up : with_mark n ValueField ≡ c s ValueField
-    value_up = written-else s VersionField (one_more (c s VersionField)) with_link n ValueField (λ e. absurd (not_n (sym e))) ∙ written-else q link (c s Right) with_value n ValueField (λ _ e. (link_only link is_link).value (sym e))
+    value_up = written-else s VersionField (one_more (c s VersionField)) with_link n ValueField (λ e. absurd (not_n (sym e))) ∙ written-else q link (c s Right) with_value n ValueField (λ _ e. (link_alone link is_link).value e)
         ∙ written-here n ValueField (c s ValueField) with_key
 
     linked_on : with_mark q link ≡ c s Right
@@ -116,7 +112,7 @@ module _ (slots : ℕ) (c : Cells) (ps : Pairs) (k : ℕ) (ready : IsReady IsPla
 
     -- but for s, versions are as in the first of these cells
     version_same : (m : ℕ) → m ≢ s → with_mark m VersionField ≡ with_version m VersionField
-    version_same m ne = written-else s VersionField (one_more (c s VersionField)) with_link m VersionField (λ e. absurd (ne e)) ∙ written-else q link (c s Right) with_value m VersionField (λ _ e. (link_only link is_link).version (sym e))
+    version_same m ne = written-else s VersionField (one_more (c s VersionField)) with_link m VersionField (λ e. absurd (ne e)) ∙ written-else q link (c s Right) with_value m VersionField (λ _ e. (link_alone link is_link).version e)
         ∙ written-else n ValueField (c s ValueField) with_key m VersionField (λ _ e. absurd (cc)) ∙ written-else n KeyField (c s KeyField) with_version m VersionField (λ _ e. absurd (cc))
 
     version_parity : (m : ℕ) → m ≢ s → with_mark m VersionField % 2 ≡ c m VersionField % 2
@@ -142,7 +138,7 @@ module _ (slots : ℕ) (c : Cells) (ps : Pairs) (k : ℕ) (ready : IsReady IsPla
     but_lifted c' but = record {
       key = but.fields n KeyField (λ e. absurd (cc)) ∙ key_up;
       value = but.fields n ValueField (λ e. absurd (cc)) ∙ value_up;
-      linked = but.fields q link (link_only link is_link).version ∙ linked_on;
+      linked = but.fields q link (λ e. (link_alone link is_link).version (sym e)) ∙ linked_on;
       rest = λ m f ne ver key value other. but.fields m f ver ∙ rest_same m f ver key value other;
       versions = λ m ne_n ne_q ne_s. but.versions m ne_q ∙ version_same m ne_s ∙ written-other_node n VersionField (two_more (c n VersionField)) c m VersionField ne_n;
       unmarked_n = but_parity c' but n (λ e. not_n (sym e)) ∙ even_n;

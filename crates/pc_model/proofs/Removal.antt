@@ -12,6 +12,7 @@ use Rattle.pc_model.proofs.SortedLists.{without_rises, without_small}
 use Rattle.pc_model.proofs.Framing.{tree_node_same, spells_same, pairs_same, unmarked_in, Apart, apart_from_rising}
 use Rattle.pc_model.proofs.Holes.{Hole, Framed, other_link, hole_apart, refilled}
 use Rattle.pc_model.proofs.HolePairs.{without-hole}
+use Rattle.pc_model.proofs.Links.{IsLinkAlone, link_alone}
 
 -- the node n was unlinked: the link to it goes to its only child, or to none, and it is marked
 pub record IsUnlinked (c c' : Cells) (above : ℕ) (side : Field) (n child : ℕ) : Type 0 where
@@ -46,25 +47,6 @@ not_both_parities v even odd = absurd (omega (arith, even, odd))
 -- a node of a tree is none outside of it
 differs : (t : Tree) (m x : ℕ) → IsIn m t → (IsIn x t → ⊥) → m ≢ x
 differs t m x i out = λ e. out (subst (λ (y : ℕ). IsIn y t) e i)
-
--- a link is none of the other fields of a node
-record IsLinkAlone (side : Field) : Type 0 where
-  version : Version ≢ side
-  key : Key ≢ side
-  value : Value ≢ side
-  parent : Parent ≢ side
-  height : Height ≢ side
-  other : other_link side ≢ side
-  other_version : other_link side ≢ Version
-
-left_alone : IsLinkAlone Left
-left_alone = record { version = λ e. cc; key = λ e. cc; value = λ e. cc; parent = λ e. cc; height = λ e. cc; other = λ e. cc; other_version = λ e. cc }
-
-right_alone : IsLinkAlone Right
-right_alone = record { version = λ e. cc; key = λ e. cc; value = λ e. cc; parent = λ e. cc; height = λ e. cc; other = λ e. cc; other_version = λ e. cc }
-
-link_alone : (side : Field) → (side ≡ Left) ⊎ (side ≡ Right) → IsLinkAlone side
-link_alone side link = ⊎_elim (λ e. subst IsLinkAlone (sym e) left_alone) (λ e. subst IsLinkAlone (sym e) right_alone) link
 
 version_or_not : (f : Field) → (f ≡ Version) ⊎ (f ≢ Version)
 version_or_not Version = inl refl

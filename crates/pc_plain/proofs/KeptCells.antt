@@ -6,6 +6,7 @@ use Rattle.pc_model.specs.declared.cell.Field.{Field}
 use Rattle.pc_model.specs.declared.cell.Field.TheVariants.{Version, Key, Value, Left, Right, Parent, Height, Spare}
 use Rattle.pc_model.specs.Cells.{Cells, FitsWords, field_number, written, with_node}
 use Rattle.pc_model.specs.Exchanges.{with_changes}
+use Rattle.pc_model.proofs.Writes.{same_field}
 use Rattle.pc_plan.specs.declared.change.To.{To}
 use Rattle.pc_plan.specs.declared.change.To.TheVariants.{Number, Fresh as FreshNumber}
 use Rattle.pc_plan.specs.declared.change.Add.{Add}
@@ -13,31 +14,6 @@ use Rattle.pc_plan.specs.declared.change.Fresh.{Fresh}
 use Rattle.pc_plan.specs.Runs.{number_at, change_at, fresh_fields, FitsWord, AreWordsOf, FreshFits}
 use Rattle.pc_plain.specs.PlainCells.{limit, AreBelowLimits, kept, kept_cells}
 use Rattle.pc_plain.specs.PlainWriting.{with_adds}
-
--- the field with a number
-abbrev field_at : ℕ → Field
-field_at zero = Version
-field_at (suc zero) = Key
-field_at (suc (suc zero)) = Value
-field_at (suc (suc (suc zero))) = Left
-field_at (suc (suc (suc (suc zero)))) = Right
-field_at (suc (suc (suc (suc (suc zero))))) = Parent
-field_at (suc (suc (suc (suc (suc (suc zero)))))) = Height
-field_at _ = Spare
-
-field_at-number : (f : Field) → field_at (field_number f) ≡ f
-field_at-number Version = refl
-field_at-number Key = refl
-field_at-number Value = refl
-field_at-number Left = refl
-field_at-number Right = refl
-field_at-number Parent = refl
-field_at-number Height = refl
-field_at-number Spare = refl
-
--- fields of one number are one field
-pub same_field : (f g : Field) → field_number f ≡ field_number g → f ≡ g
-same_field f g e = sym (field_at-number f) ∙ ap field_at e ∙ field_at-number g
 
 pub kept_small : (x : ℕ) → kept Version x < 1152921504606846970
 kept_small x = cond_both (nat_lt x 1152921504606846970) x (x % 2) (λ y. y < 1152921504606846970)
