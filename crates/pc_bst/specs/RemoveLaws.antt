@@ -20,7 +20,6 @@ use Rattle.pc_plan.specs.declared.plan.Told.TheVariants.{Begin}
 use Rattle.pc_plan.specs.Traces.{Event, visited, found}
 use Rattle.pc_plan.specs.Runs.{Runs, IsReady}
 use Rattle.pc_plan.proofs.Courses.{Course, more_turns, course_goes, course_ends}
-use Rattle.pc_plan.proofs.Learning.{version_seen-else}
 use Rattle.pc_bst.specs.declared.walk.Awaited.TheVariants.{Key as AKey}
 use Rattle.pc_bst.specs.declared.walk.Step.TheVariants.{Found}
 use Rattle.pc_bst.specs.declared.unlink.Above.{Above}
@@ -31,7 +30,8 @@ use Rattle.pc_bst.specs.declared.remove.RemovePhase.TheVariants.{Walking, Readin
 use Rattle.pc_bst.specs.Removes.{remove_call, above_of, remove_of, given_up, remove_walked, gone_below, link_of, chosen, followed, remove_moves}
 use Rattle.pc_bst.specs.Unlinks.{unlinked}
 use Rattle.pc_bst.specs.PlainTrees.{IsPlainTree}
-use Rattle.pc_bst.specs.WalkCourses.{IsUnseen, walk_at, walk_course}
+use Rattle.pc_bst.specs.WalkCourses.{walk_at, walk_course}
+use Rattle.pc_plan.proofs.Unseen.{IsUnseen, unseen_left}
 use Rattle.pc_bst.specs.RemoveEnds.{place_in, unlink_end, lift_end}
 
 -- a link to another node than these is followed
@@ -112,7 +112,7 @@ module _ (slots : ℕ) (c : Cells) (ps : Pairs) (k : ℕ) (ready : IsReady IsPla
         let goes : followed target p (node_at (c m Left)) ≡ (Visiting target on x, AskVisit x) = ap (followed target p) named ∙ goes_below target on x (λ e. no_n (inr (inl (inl (sym e))))) (λ e. sides.not_left (inl (sym e))) in
         let past1 : List Event = visited m (c m VersionField) ∷ past in
         let past2 : List Event = found m Left (c m Left) ∷ past1 in
-        let unseen' : IsUnseen (Fork x a b') past2 = λ y i. version_seen-else y m (c m VersionField) past (λ e. sides.not_left (subst (λ (z : ℕ). IsIn z (Fork x a b')) (sym e) i)) ∙ unseen y (inr (inl i)) in
+        let unseen' : IsUnseen (Fork x a b') past2 = unseen_left c m (Fork x a b') b sides (c m VersionField) past unseen in
         let go : Goes (turns_to_first a) past2 (Visiting target on x, AskVisit x) =
         descend x a b' m Left past2 (inl refl) is_m here.unmarked spelled.2 sides.left (λ i. no_n (inr (inl i))) sides.not_left unseen' first in
         ((is_m, here.unmarked, unseen m (inl refl)), (is_m, subst (Goes (turns_to_first a) past2) (sym goes) go))

@@ -25,7 +25,7 @@ use Rattle.pc_bst.specs.declared.walk.Step.TheVariants.{Visit, Read, Found, Miss
 use Rattle.pc_plan.specs.Traces.{Event, visited, found, version_seen}
 use Rattle.pc_bst.specs.Walks.{walk_of, reading_link, arriving, comparing, following, walk_step}
 use Rattle.pc_plan.proofs.Courses.{Course, more_turns}
-use Rattle.pc_plan.proofs.Learning.{version_seen-else}
+use Rattle.pc_plan.proofs.Unseen.{IsUnseen, unseen_left, unseen_right, unseen_whole}
 
 -- a walk that has come to a node
 abbrev pub walk_at : ℕ → ℕ → ℕ → Awaited → Walk
@@ -47,10 +47,6 @@ comparing-less k n v x a lt = cond-false (k == x) (walk_at k n v a, Found) (if n
 comparing-more : (k n v x : ℕ) (a : Awaited) → x < k → comparing (walk_at k n v a) x ≡ reading_link (walk_at k n v a) Right
 comparing-more k n v x a lt = cond-false (k == x) (walk_at k n v a, Found) (if nat_lt k x then reading_link (walk_at k n v a) Left else reading_link (walk_at k n v a) Right) (ne_eqb k x (λ e. absurd (omega arith)))
     ∙ cond-false (nat_lt k x) (reading_link (walk_at k n v a) Left) (reading_link (walk_at k n v a) Right) (le-ltb k x (omega arith))
-
--- nothing of a tree was visited yet
-abbrev pub IsUnseen : Tree → List Event → Type 0
-IsUnseen t past = (m : ℕ) → IsIn m t → version_seen m past ≡ None
 
 module _ (sound : ℕ → Cells → Pairs → Type 0) (kind : Kind) (slots : ℕ) (c : Cells) (ps : Pairs) (call : Option Call) (few : slots ≤ 61000) (tree : IsSearchTree kind slots c ps) where
   -- At a walk the plan's state may keep the walk as it was when it left the node above. What the plan
@@ -109,8 +105,8 @@ module _ (sound : ℕ → Cells → Pairs → Type 0) (kind : Kind) (slots : ℕ
           let named : node_at (c above side) ≡ Some n = ap node_at h.spelled.0 ∙ node_at-node n (omega arith) (omega arith) in
           let step1 : moves (at_walk b w0) (Number (c above side)) ≡ (at_walk w0 w1, AskVisit n) = moved b w0 w1 (Number (c above side)) (Visit n) (ap (following w0 side (c above side)) named) ∙ goes_visit b w0 w1 n in
           let step2 : moves (at_walk w0 w1) (Version (c n VersionField)) ≡ (at_walk w0 w2, AskRead n KeyField) = moved w0 w1 w2 (Version (c n VersionField)) (Read n KeyField) (arriving-node k n v (c n VersionField) AVersion slot.0) ∙ goes_read w0 w1 w2 n KeyField in
-          let unseen_l : IsUnseen l past3 = λ m i. version_seen-else m n (c n VersionField) past1 (λ e. a.not_left (subst (λ (x : ℕ). IsIn x l) (sym e) i)) ∙ unseen m (inr (inl i)) in
-          let unseen_r : IsUnseen r past3 = λ m i. version_seen-else m n (c n VersionField) past1 (λ e. a.not_right (subst (λ (x : ℕ). IsIn x r) (sym e) i)) ∙ unseen m (inr (inr i)) in
+          let unseen_l : IsUnseen l past3 = unseen_left c n l r a (c n VersionField) past1 unseen in
+          let unseen_r : IsUnseen r past3 = unseen_right c n l r a (c n VersionField) past1 unseen in
           let go3 : Goes turns past3 (moves (at_walk w0 w2) (Number (c n KeyField))) =
           ⊎_elim (λ e. let to : P × Ask = walked w0 w2 w2 Found in
           let next : moves (at_walk w0 w2) (Number (c n KeyField)) ≡ to = moved w0 w2 w2 (Number (c n KeyField)) Found (comparing-found k n (c n VersionField) (c n KeyField) AKey e) in
@@ -139,7 +135,7 @@ module _ (sound : ℕ → Cells → Pairs → Type 0) (kind : Kind) (slots : ℕ
           let past1 : List Event = visited 1 (c 1 VersionField) ∷ [] in
           let step0 : moves (at_walk b b) Begin ≡ (at_walk b w0, AskVisit 1) = moved b b w0 Begin (Visit 1) refl ∙ goes_visit b b w0 1 in
           let step1 : moves (at_walk b w0) (Version (c 1 VersionField)) ≡ (at_walk b w1, AskRead 1 Left) = moved b w0 w1 (Version (c 1 VersionField)) (Read 1 Left) refl ∙ goes_read b w0 w1 1 Left in
-          let unseen : IsUnseen tree.tree past1 = λ m i. let slot : IsSlot slots m = slot_in kind slots c tree.tree 1 (c 1 Left) m tree.spelled i in version_seen-else m 1 (c 1 VersionField) [] (λ e. absurd (omega arith)) in
+          let unseen : IsUnseen tree.tree past1 = unseen_whole kind slots c tree.tree (c 1 VersionField) tree.spelled in
           let turns : ℕ = 3 * size_of tree.tree + suc more in
           let go1 : Goes turns past1 (moves (at_walk b w0) (Version (c 1 VersionField))) = subst (Goes turns past1) (sym step1) (walk_on tree.tree b 1 Left turns past1 (root_hole kind slots c ps tree k) (inl refl) unseen (omega arith)) in
           let go0 : Goes (suc turns) [] (moves (at_walk b b) Begin) = subst (Goes (suc turns) []) (sym step0) (((omega arith, omega arith), tree.unmarked, refl), go1) in

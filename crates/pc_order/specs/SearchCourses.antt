@@ -15,7 +15,7 @@ use Rattle.pc_plan.specs.declared.plan.Ask.{Ask}
 use Rattle.pc_plan.specs.declared.plan.Ask.TheVariants.{Visit, Read}
 use Rattle.pc_plan.specs.Traces.{Event, visited, found, version_seen}
 use Rattle.pc_plan.proofs.Courses.{Course, more_turns}
-use Rattle.pc_plan.proofs.Learning.{version_seen-else}
+use Rattle.pc_plan.proofs.Unseen.{IsUnseen, unseen_left, unseen_right, unseen_whole}
 use Rattle.pc_order.specs.declared.search.Way.{Way}
 use Rattle.pc_order.specs.declared.search.Awaited.{Awaited}
 use Rattle.pc_order.specs.declared.search.Awaited.TheVariants.{Version as AVersion, Key as AKey, Value as AValue, Link as ALink}
@@ -32,10 +32,6 @@ turns_below (Fork n l r) = suc (suc (suc (suc (turns_below l + turns_below r))))
 pub few_turns : (t : Tree) → turns_below t ≤ 5 * size_of t + 1
 few_turns Empty = omega arith
 few_turns (Fork n l r) = let left : turns_below l ≤ 5 * size_of l + 1 = few_turns l in let right : turns_below r ≤ 5 * size_of r + 1 = few_turns r in omega arith
-
--- nothing of a tree was visited yet
-abbrev pub IsUnseen : Tree → List Event → Type 0
-IsUnseen t past = (m : ℕ) → IsIn m t → version_seen m past ≡ None
 
 module _ (way : Way) (kind : Kind) (slots : ℕ) (c : Cells) (ps : Pairs) (k : ℕ) (few : slots ≤ 61000) where
   -- a search that has come to a node
@@ -121,8 +117,8 @@ module _ (way : Way) (kind : Kind) (slots : ℕ) (c : Cells) (ps : Pairs) (k : �
       let past3 : List Event = found n KeyField (c n KeyField) ∷ past2 in
       let kept : Option (ℕ × ℕ) = remembered way k (pair_of c n) o in
       let named : node_at (c above f) ≡ Some n = ap node_at spelled.0 ∙ node_at-node n (omega arith) (omega arith) in
-      let unseen_l : IsUnseen l past3 = λ m i. version_seen-else m n v past1 (λ e. a.not_left (subst (λ (x : ℕ). IsIn x l) (sym e) i)) ∙ unseen m (inr (inl i)) in
-      let unseen_r : IsUnseen r past3 = λ m i. version_seen-else m n v past1 (λ e. a.not_right (subst (λ (x : ℕ). IsIn x r) (sym e) i)) ∙ unseen m (inr (inr i)) in
+      let unseen_l : IsUnseen l past3 = unseen_left c n l r a v past1 unseen in
+      let unseen_r : IsUnseen r past3 = unseen_right c n l r a v past1 unseen in
       let is_here : k ≡ c n KeyField → nearest_on way k ps ≡ Some (pair_of c n) = λ e.
       near ∙ ap (λ (q : Option (ℕ × ℕ)). found_or q o) (nearest-here way k (pairs_of c l) (pair_of c n) (pairs_of c r) a.below a.above e) in
       let on : (past' : List Event) → ((m : ℕ) → version_seen m past' ≡ version_seen m past3) → k ≢ c n KeyField → GoesOn turns n kept past' = λ past' same ne. to_side turns n kept past' ne
@@ -144,6 +140,6 @@ module _ (way : Way) (kind : Kind) (slots : ℕ) (c : Cells) (ps : Pairs) (k : �
       let t : Tree = tree.tree in
       let past1 : List Event = visited 1 (c 1 VersionField) ∷ [] in
       let first : IsNode slots 1 = (omega arith, omega arith) in
-      let unseen : IsUnseen t past1 = λ m i. let slot : IsSlot slots m = slot_in kind slots c t 1 (c 1 Left) m tree.spelled i in version_seen-else m 1 (c 1 VersionField) [] (λ e. absurd (omega arith)) in
+      let unseen : IsUnseen t past1 = unseen_whole kind slots c t (c 1 VersionField) tree.spelled in
       let near : nearest_on way k ps ≡ found_or (nearest_on way k (pairs_of c t)) None = ap (nearest_on way k) (sym tree.pairs) ∙ found_or-None (nearest_on way k (pairs_of c t)) in
       ((first, tree.unmarked, refl), search_below t 1 Left None past1 first tree.spelled (subst IsRising (sym tree.pairs) tree.rising) unseen near)
