@@ -2,6 +2,9 @@
 //! history. Its work is the one call `serve`, over standard input and output.
 #![tactic(auto)]
 
+ghost use Rattle.std.specs.Prelude.{◌≡◌, ◌≢◌};
+ghost use Rattle.pathmap.specs.Serving.{WritesFault};
+
 mod reading;
 mod running;
 mod serve;
@@ -35,7 +38,13 @@ fn main(rt: HostRuntime) -> ExitCode {
 }
 
 /// A word that isn't UTF-8 makes a faulty command line. Where memory was wanting, nothing is written.
-fn refuse_words<K: Sink>(sink: &mut K, error: ErrorKind) -> u8 {
+fn refuse_words<K: Sink>(sink: &mut K, error: ErrorKind) -> u8
+    ensures usage { error ≡ ErrorKind.InvalidData → result ≡ 2 }
+    ensures line { error ≡ ErrorKind.InvalidData →
+        WritesFault (K.held sink.old) (K.held sink.new) (K.faults sink.old) (K.faults sink.new) Fault.Usage }
+    ensures no_words { error ≢ ErrorKind.InvalidData → result ≡ 10 }
+    ensures unwritten { error ≢ ErrorKind.InvalidData → sink.new ≡ sink.old }
+{
     if error == ErrorKind::InvalidData {
         refuse(sink, &Fault::Usage)
     } else {
