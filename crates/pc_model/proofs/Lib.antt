@@ -1,5 +1,6 @@
 pub mod Counting
 pub mod DebtLists
+pub mod DebtReasons
 pub mod Framing
 pub mod Histories
 pub mod HolePairs

@@ -1,5 +1,5 @@
 //! The laws of the definitions, each on a function with no code.
-ghost use Rattle.pc_model.specs.DebtLaws.{NoDebtIsForgotten};
+ghost use Rattle.pc_model.specs.DebtLaws.{NoDebtIsForgotten, NoDebtIsInvented};
 ghost use Rattle.pc_model.specs.EntryLaws.{GoesInParts, IsItsCallsInOrder};
 ghost use Rattle.pc_model.specs.MapLaws.{FindsNearest, IsFiniteMap};
 
@@ -30,4 +30,12 @@ pub fn history_of_one_client_is_its_calls()
 /// release every other key still is.
 pub fn no_debt_is_forgotten()
     ensures { NoDebtIsForgotten }
+{}
+
+/// Nothing is owed without a reason: after a charge only what was owed and the keys from this one up,
+/// after a key was put first only it, what was owed, and the keys from one of the list up. A released
+/// key that the number doesn't reach isn't owed. What was put first comes first, and every key of the
+/// list before the number.
+pub fn no_debt_is_invented()
+    ensures { NoDebtIsInvented }
 {}

@@ -20,6 +20,6 @@ pub use cell::{Counter, Field};
 pub use first_wrong::{Wrong, replay};
 pub use laws::{
     ceil_and_floor_are_nearest, history_of_one_client_is_its_calls, no_debt_is_forgotten,
-    replay_goes_in_parts, sorted_map_is_finite_map,
+    no_debt_is_invented, replay_goes_in_parts, sorted_map_is_finite_map,
 };
 pub use owed::{Owed, Owing, Settle};

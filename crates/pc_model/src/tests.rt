@@ -92,4 +92,5 @@ fn laws_can_be_called(rt: HostRuntime) {
     replay_goes_in_parts();
     history_of_one_client_is_its_calls();
     no_debt_is_forgotten();
+    no_debt_is_invented();
 }

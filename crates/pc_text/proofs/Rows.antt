@@ -1,10 +1,17 @@
 -- Worked rows of the definition: each one computes.
 use Rattle.std.proofs.Common.{◌≡◌, ℕ, List, [], ◌∷◌, ◌++◌, Result, Ok, Err, refl}
 use Rattle.std.specs.Prelude.{codes}
+use Rattle.std.specs.Fmt.{digits}
 use Rattle.pc_model.specs.declared.call.Call.{Call}
 use Rattle.pc_model.specs.declared.call.Call.TheVariants.{Put, Get, Remove, Ceil, Floor}
+use Rattle.pc_model.specs.declared.call.Reply.{Reply}
+use Rattle.pc_model.specs.declared.call.Reply.TheVariants.{New, Value}
+use Rattle.pc_model.specs.declared.call.Entry.{Entry}
+use Rattle.pc_text.specs.declared.fault.Fault.TheVariants.{Usage, Script}
 use Rattle.pc_text.specs.declared.kind.ScriptKind.{ScriptKind}
 use Rattle.pc_text.specs.declared.kind.ScriptKind.TheVariants.{BadByte, UnknownWord, WordCount, BadNumber, TooManyClients}
+use Rattle.pc_text.specs.FaultLine.{kind_text, fault_text, fault_line}
+use Rattle.pc_text.specs.Printed.{call_text, reply_text, turn_text, entry_line, left_line, pair_line, end_line, printed_run}
 use Rattle.pc_text.specs.Script.{script_of}
 use Rattle.pc_text.specs.ScriptValue.{ScriptValue}
 
@@ -13,6 +20,9 @@ of_clients calls clients = Ok (record { clients = clients; calls = calls })
 
 abbrev of_one : List Call → Result ScriptValue (ℕ × ScriptKind)
 of_one calls = of_clients (calls ∷ []) 1
+
+abbrev entry : ℕ → Call → Reply → Entry
+entry number call reply = record { pass = 1; number = number; call = call; reply = reply; stamp = number }
 
 empty : script_of [] ≡ of_one []
 empty = refl
@@ -55,6 +65,10 @@ return_in_the_middle = refl
 clients_in_turn : script_of (codes "get 1\nclient 3\nget 2\nclient 1\nget 3\nclient 3\nget 4\n") ≡ of_clients ((Get 1 ∷ Get 3 ∷ []) ∷ [] ∷ (Get 2 ∷ Get 4 ∷ []) ∷ []) 3
 clients_in_turn = refl
 
+-- the greatest client counts, not the last one that was named
+greatest_client : script_of (codes "client 3\nget 1\nclient 2\nget 2\n") ≡ of_clients ([] ∷ (Get 2 ∷ []) ∷ (Get 1 ∷ []) ∷ []) 3
+greatest_client = refl
+
 fifth_client_alone : script_of (codes "client 5") ≡ of_clients ([] ∷ [] ∷ [] ∷ [] ∷ [] ∷ []) 5
 fifth_client_alone = refl
 
@@ -71,6 +85,9 @@ thirty_digits = refl
 
 one_too_large : script_of (codes "put 1000000000000000000 1\n") ≡ Err (1, BadNumber)
 one_too_large = refl
+
+a_bad_value : script_of (codes "put 1 x\n") ≡ Err (1, BadNumber)
+a_bad_value = refl
 
 a_sign : script_of (codes "get +1\n") ≡ Err (1, BadNumber)
 a_sign = refl
@@ -103,3 +120,17 @@ client_past_all_numbers = refl
 
 the_second_line : script_of (codes "get 1\nput 1\nget\n") ≡ Err (2, WordCount)
 the_second_line = refl
+
+-- ---- what is written
+
+usage_line : fault_line Usage ≡ codes "fault usage\n"
+unfolding fault_line fault_text
+usage_line = refl
+
+script_line : fault_line (Script 2 UnknownWord) ≡ codes "fault line 2 unknown word\n"
+unfolding fault_line fault_text kind_text digits
+script_line = refl
+
+put_and_get : printed_run (entry 1 (Put 5 50) New ∷ entry 2 (Get 5) (Value 50) ∷ []) ((5, 50) ∷ []) ≡ codes "1 1.1 put 5 50 = new\n2 1.2 get 5 = 50\nleft 1\n5 50\nend\n"
+unfolding entry_line turn_text call_text reply_text left_line pair_line end_line digits
+put_and_get = refl

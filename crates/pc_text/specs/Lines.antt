@@ -1,5 +1,5 @@
--- The lines of bytes. A line feed (10) ends a line, and one carriage return before it belongs to the
--- line's end too.
+-- The lines of bytes. A line feed (10) ends a line, and so does the end of the bytes. One carriage return
+-- at a line's end belongs to the end.
 use Rattle.std.specs.Prelude.{ℕ, ◌==◌, if◌then◌else◌, List, [], ◌∷◌, length, map}
 use Rattle.std.specs.List.{slice_split}
 use Rattle.std.specs.Str.Lines.{strip_carriage_return}
