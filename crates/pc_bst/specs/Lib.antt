@@ -1,3 +1,4 @@
+pub mod CallLaws
 pub mod GetLaws
 pub mod Gets
 pub mod LinkFields

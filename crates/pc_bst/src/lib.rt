@@ -4,6 +4,7 @@
 #![tactic(auto)]
 
 mod get;
+mod laws;
 #[cfg(test)]
 mod plan_tests;
 mod put;
@@ -17,5 +18,6 @@ mod version;
 mod walk;
 
 pub use get::BstGet;
+pub use laws::plans_stand_for_their_calls;
 pub use put::BstPut;
 pub use remove::BstRemove;

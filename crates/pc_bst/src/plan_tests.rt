@@ -1,5 +1,6 @@
 //! The plans as they are told a small table of cells by hand, and as they run on plain cells.
 use crate::get::BstGet;
+use crate::laws::plans_stand_for_their_calls;
 use crate::put::BstPut;
 use crate::test_helpers::{asks_for, change_in, listed, opened, run};
 use pc_model::{Call, Field, Reply};
@@ -123,4 +124,9 @@ fn full_cells_refuse_a_new_key_and_stay(rt: HostRuntime) -> Result<(), Fail> {
     let all = listed(rt.alloc(), &cells)?;
     assert_eq!(rt; all.as_slice(), [(1, 10), (2, 5)].as_slice());
     Ok(())
+}
+
+#[test]
+fn laws_can_be_called(rt: HostRuntime) {
+    plans_stand_for_their_calls();
 }

@@ -1,3 +1,4 @@
+pub mod CallLaws
 pub mod Nearest
 pub mod Ordered
 pub mod OrderedLaws

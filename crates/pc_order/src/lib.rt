@@ -4,9 +4,11 @@
 
 mod ceil;
 mod floor;
+mod laws;
 mod search;
 #[cfg(test)]
 mod tests;
 
 pub use ceil::CeilPlan;
 pub use floor::FloorPlan;
+pub use laws::plans_stand_for_their_calls;

@@ -6,6 +6,7 @@ ghost use Rattle.pc_bst.specs.PlainTrees.{IsPlainTree};
 
 use crate::ceil::CeilPlan;
 use crate::floor::FloorPlan;
+use crate::laws::plans_stand_for_their_calls;
 use pc_bst::BstPut;
 use pc_model::{Call, Field, Memory, Reply};
 use pc_plain::{NoPlainSlot, PlainCells, run_plan};
@@ -246,4 +247,9 @@ fn every_key_around_a_larger_tree(rt: HostRuntime) -> Result<(), Fail> {
         assert_eq!(rt; floor(&mut cells, key), reply_of(below), "floor {key}");
     }
     Ok(())
+}
+
+#[test]
+fn laws_can_be_called(rt: HostRuntime) {
+    plans_stand_for_their_calls();
 }
