@@ -89,14 +89,32 @@ module _ (kind : Kind) (slots : ℕ) (c : Cells) (ps : Pairs) where
   pub hole_apart : (whole : Tree) (k above : ℕ) (side : Field) (n : ℕ) (l r : Tree) → IsRising ps → Hole kind slots c ps whole k above side (Fork n l r) → Apart c n l r
   hole_apart whole k above side n l r rising h = apart_from_rising c n l r (rising_sub h.before (pairs_of c (Fork n l r)) h.after h.pairs rising)
 
+  -- a change below a link of the hole's node is one below the hole's own link, where nothing else differs
+  module _ (whole : Tree) (k above : ℕ) (side : Field) (n : ℕ) (l r : Tree) (h : Hole kind slots c ps whole k above side (Fork n l r))
+      (c' : Cells) (link : Field) (sub : Tree) (within : (m : ℕ) → IsIn m sub → IsIn m (Fork n l r)) (framed : Framed slots c c' n link sub) where
+    same_outside : (m : ℕ) → IsNode slots m → IsEven (c m Version) → (IsIn m (Fork n l r) → ⊥) → (f : Field) → c' m f ≡ c m f
+    same_outside m is even out f = framed.elsewhere m is even (λ i. out (within m i)) (λ e. out (inl e)) f
+
+    same_above : (f : Field) → c' above f ≡ c above f
+    same_above f = same_outside above h.node h.unmarked h.apart f
+
+    framed_above : Framed slots c c' above side (Fork n l r)
+    framed_above = record {
+      elsewhere = λ m is even no _ f. same_outside m is even no f;
+      key = same_above Key;
+      value = same_above Value;
+      parent = same_above Parent;
+      height = same_above Height;
+      other = same_above (other_link side);
+      unmarked = rw (same_above Version) h.unmarked;
+    }
+
   -- the walk goes left below a node with a greater key
   pub left_hole : (whole : Tree) (k above : ℕ) (side : Field) (n : ℕ) (l r : Tree) → IsRising ps → k < c n Key
       → Hole kind slots c ps whole k above side (Fork n l r) → Hole kind slots c ps whole k n Left l
   left_hole whole k above side n l r rising lt h =
       let a : Apart c n l r = hole_apart whole k above side n l r rising h in
       let node : IsTreeNode kind slots c above n = h.spelled.1 in
-      let not_above : n ≢ above = λ e. h.apart (inl (sym e)) in
-      let in_l : (m : ℕ) → IsIn m l → IsSlot slots m = λ m i. slot_in kind slots c l n (c n Left) m h.spelled.2 i in
       let in_r : (m : ℕ) → IsIn m r → IsSlot slots m = λ m i. slot_in kind slots c r n (c n Right) m h.spelled.3 i in
       let even_r : (m : ℕ) → IsIn m r → IsEven (c m Version) = λ m i. unmarked_in kind slots c r n (c n Right) m h.spelled.3 i in
       record {
@@ -110,20 +128,10 @@ module _ (kind : Kind) (slots : ℕ) (c : Cells) (ps : Pairs) where
         unmarked = node.unmarked;
         apart = a.not_left;
         fill = λ c' t' framed spelled.
-            let far : (m : ℕ) → IsNode slots m → IsEven (c m Version) → (IsIn m (Fork n l r) → ⊥) → (f : Field) → c' m f ≡ c m f =
-            λ m is even no f. framed.elsewhere m is even (λ i. no (inr (inl i))) (λ e. no (inl e)) f in
-            let upper : (f : Field) → c' above f ≡ c above f = λ f. far above h.node h.unmarked h.apart f in
+            let upper : (f : Field) → c' above f ≡ c above f = same_above whole k above side n l r h c' Left l (λ m i. inr (inl i)) framed in
             let right : (m : ℕ) → IsIn m r → (f : Field) → c' m f ≡ c m f =
             λ m i f. let s : IsSlot slots m = in_r m i in framed.elsewhere m (omega arith, omega arith) (even_r m i) (λ j. a.not_both m j i) (λ e. a.not_right (subst (λ (x : ℕ). IsIn x r) e i)) f in
-            let up : Framed slots c c' above side (Fork n l r) = record {
-              elsewhere = λ m is even no _ f. far m is even no f;
-              key = upper Key;
-              value = upper Value;
-              parent = upper Parent;
-              height = upper Height;
-              other = upper (other_link side);
-              unmarked = rw (upper Version) h.unmarked;
-            } in
+            let up : Framed slots c c' above side (Fork n l r) = framed_above whole k above side n l r h c' Left l (λ m i. inr (inl i)) framed in
             let right_link : Spells kind slots c' r n (c' n Right) = rw framed.other (spells_same kind slots c c' r n (c n Right) right h.spelled.3) in
             let there : Spells kind slots c' (Fork n t' r) above (c' above side) =
             (upper side ∙ h.spelled.0, tree_node_same kind slots c c' above n framed.unmarked framed.parent framed.height node, spelled, right_link) in
@@ -150,7 +158,6 @@ module _ (kind : Kind) (slots : ℕ) (c : Cells) (ps : Pairs) where
   right_hole whole k above side n l r rising lt h =
       let a : Apart c n l r = hole_apart whole k above side n l r rising h in
       let node : IsTreeNode kind slots c above n = h.spelled.1 in
-      let not_above : n ≢ above = λ e. h.apart (inl (sym e)) in
       let in_l : (m : ℕ) → IsIn m l → IsSlot slots m = λ m i. slot_in kind slots c l n (c n Left) m h.spelled.2 i in
       let even_l : (m : ℕ) → IsIn m l → IsEven (c m Version) = λ m i. unmarked_in kind slots c l n (c n Left) m h.spelled.2 i in
       record {
@@ -165,20 +172,10 @@ module _ (kind : Kind) (slots : ℕ) (c : Cells) (ps : Pairs) where
         unmarked = node.unmarked;
         apart = a.not_right;
         fill = λ c' t' framed spelled.
-            let far : (m : ℕ) → IsNode slots m → IsEven (c m Version) → (IsIn m (Fork n l r) → ⊥) → (f : Field) → c' m f ≡ c m f =
-            λ m is even no f. framed.elsewhere m is even (λ i. no (inr (inr i))) (λ e. no (inl e)) f in
-            let upper : (f : Field) → c' above f ≡ c above f = λ f. far above h.node h.unmarked h.apart f in
+            let upper : (f : Field) → c' above f ≡ c above f = same_above whole k above side n l r h c' Right r (λ m i. inr (inr i)) framed in
             let left : (m : ℕ) → IsIn m l → (f : Field) → c' m f ≡ c m f =
             λ m i f. let s : IsSlot slots m = in_l m i in framed.elsewhere m (omega arith, omega arith) (even_l m i) (λ j. a.not_both m i j) (λ e. a.not_left (subst (λ (x : ℕ). IsIn x l) e i)) f in
-            let up : Framed slots c c' above side (Fork n l r) = record {
-              elsewhere = λ m is even no _ f. far m is even no f;
-              key = upper Key;
-              value = upper Value;
-              parent = upper Parent;
-              height = upper Height;
-              other = upper (other_link side);
-              unmarked = rw (upper Version) h.unmarked;
-            } in
+            let up : Framed slots c c' above side (Fork n l r) = framed_above whole k above side n l r h c' Right r (λ m i. inr (inr i)) framed in
             let left_link : Spells kind slots c' l n (c' n Left) = rw framed.other (spells_same kind slots c c' l n (c n Left) left h.spelled.2) in
             let there : Spells kind slots c' (Fork n l t') above (c' above side) =
             (upper side ∙ h.spelled.0, tree_node_same kind slots c c' above n framed.unmarked framed.parent framed.height node, left_link, spelled) in
