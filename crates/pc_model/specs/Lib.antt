@@ -6,6 +6,7 @@ pub mod Debts
 pub mod EntryLaws
 pub mod Exchanges
 pub mod FirstWrong
+pub mod Forms
 pub mod History
 pub mod Map
 pub mod MapLaws
