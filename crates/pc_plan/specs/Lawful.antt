@@ -1,12 +1,9 @@
 -- The law of a plan whatever it is told: it begins with a visit, visits the sentinel and nodes that it
 -- was told of, reads what it visited, at most eight times a visit, and changes what it was told.
-use Rattle.std.specs.Prelude.{◌≡◌, refl, ◌≢◌, ℕ, ◌+◌, ◌^◌, ◌<◌, ◌⊎◌, List, [], ◌∷◌, Option, Some, None, IsSome}
-use Rattle.pc_model.specs.declared.call.Call.{Call}
-use Rattle.pc_model.specs.declared.call.Reply.{Reply}
+use Rattle.std.specs.Prelude.{◌≡◌, ◌≢◌, ℕ, ◌+◌, ◌^◌, ◌<◌, ◌≤◌, ◌⊎◌, if◌then◌else◌, List, [], ◌∷◌, length, Option, Some, None, IsSome, IfSome}
 use Rattle.pc_model.specs.declared.cell.Field.{Field}
 use Rattle.pc_model.specs.declared.cell.Field.TheVariants.{Version as VersionField, Left, Right, Parent}
-use Rattle.pc_model.specs.declared.owed.Settle.{Settle}
-use Rattle.pc_model.specs.declared.owed.Settle.TheVariants.{Nothing}
+use Rattle.pc_plan.specs.declared.change.To.{To}
 use Rattle.pc_plan.specs.declared.change.To.TheVariants.{Number, Fresh as FreshNumber}
 use Rattle.pc_plan.specs.declared.change.Add.{Add}
 use Rattle.pc_plan.specs.declared.change.Fresh.{Fresh}
@@ -15,6 +12,7 @@ use Rattle.pc_plan.specs.declared.plan.Ask.TheVariants.{Visit, Read, Change, Ans
 use Rattle.pc_plan.specs.declared.plan.Told.{Told}
 use Rattle.pc_plan.specs.declared.plan.Told.TheVariants.{Begin, Version, Number as NumberTold}
 use Rattle.pc_plan.specs.Planned.{Planned}
+use Rattle.pc_plan.specs.SlotsAfter.{is_node}
 use Rattle.pc_plan.specs.Traces.{Event, visited, found, version_seen, number_seen, reads_since_visit}
 use Rattle.pc_plan.specs.Runs.{reached, past_of}
 
@@ -22,24 +20,41 @@ use Rattle.pc_plan.specs.Runs.{reached, past_of}
 abbrev pub IsLink : Field → Type 0
 IsLink f = (f ≡ Left) ⊎ ((f ≡ Right) ⊎ (f ≡ Parent))
 
--- a field that names a node below
-abbrev pub IsSide : Field → Type 0
-IsSide f = (f ≡ Left) ⊎ (f ≡ Right)
-
 -- the node was told for a link
 abbrev pub WasToldOf : ℕ → List Event → Type 0
 WasToldOf n [] = ⊥
 WasToldOf n (visited m v ∷ past) = WasToldOf n past
 WasToldOf n (found m f x ∷ past) = (IsLink f × (x ≡ n)) ⊎ WasToldOf n past
 
--- a version is raised by two, or by one where its node is marked
+-- by how much a version is raised: by one where its node is marked, else by two
+abbrev pub rise_of : Option ℕ → ℕ → ℕ
+rise_of mark n = if is_node mark n then 1 else 2
+
 abbrev pub RaisesVersion : Option ℕ → Add → Type 0
-RaisesVersion mark a = (a.new ≡ Number (a.old + 2)) ⊎ ((a.new ≡ Number (a.old + 1)) × (mark ≡ Some a.node))
+RaisesVersion mark a = a.new ≡ Number (a.old + rise_of mark a.node)
+
+-- what a word gets fits it
+abbrev pub FitsWord : To → Type 0
+FitsWord (Number x) = x < 2 ^ 62
+FitsWord FreshNumber = Unit {0}
+
+abbrev pub AreFitting : List Add → Type 0
+AreFitting [] = Unit {0}
+AreFitting (a ∷ adds) = FitsWord a.new × AreFitting adds
+
+-- a fresh node has numbers that fit, and the node above it was visited
+pub record IsToldFresh (past : List Event) (f : Fresh) : Type 0 where
+  pub key : f.key < 2 ^ 62
+  pub value : f.value < 2 ^ 62
+  pub height : f.height < 2 ^ 62
+  pub parent : (f.parent ≡ 0) ⊎ IsSome (version_seen f.parent past)
 
 -- a word of a visited node, with the number that was told, and for a version a rise
 abbrev pub IsToldWord : List Event → Option ℕ → Add → Type 0
-IsToldWord past mark a = ((a.field ≡ VersionField) × (version_seen a.node past ≡ Some a.old) × RaisesVersion mark a)
-    ⊎ ((a.field ≢ VersionField) × IsSome (version_seen a.node past) × (number_seen a.node a.field past ≡ Some a.old))
+IsToldWord past mark a =
+    ((a.field ≡ VersionField) × (version_seen a.node past ≡ Some a.old) × RaisesVersion mark a)
+    ⊎ ((a.field ≢ VersionField) × IsSome (version_seen a.node past)
+    × (number_seen a.node a.field past ≡ Some a.old))
 
 abbrev pub AreToldWords : List Event → Option ℕ → List Add → Type 0
 AreToldWords past mark [] = Unit {0}
@@ -72,11 +87,15 @@ MarksAlone (Some n) adds = Adds n VersionField adds × ((f : Field) → Adds n f
 
 pub record IsLawfulChange (past : List Event) (p : Planned) : Type 0 where
   pub some : p.adds ≢ []
+  pub few : length p.adds ≤ 24
   pub told : AreToldWords past p.mark p.adds
+  pub fit : AreFitting p.adds
   pub once : AreOnce p.adds
   pub versions : AddsVersions p.adds p.adds
-  pub fresh : NamesFresh p.fresh p.adds
+  pub names_fresh : NamesFresh p.fresh p.adds
+  pub fresh : IfSome p.fresh (IsToldFresh past)
   pub mark : MarksAlone p.mark p.adds
+  pub few_charges : length p.charged ≤ 4
 
 -- what a plan may ask after what it learned
 abbrev pub IsLawfulAsk : List Event → Ask → Type 0
@@ -85,10 +104,10 @@ IsLawfulAsk past (Read n f) = IsSome (version_seen n past) × (reads_since_visit
 IsLawfulAsk past (Change p) = IsLawfulChange past p
 IsLawfulAsk past (Answer r) = Unit {0}
 
--- a number that a word can hold
+-- a number that a word can hold, with room above a version
 abbrev pub IsWord : Told → Type 0
 IsWord Begin = Unit {0}
-IsWord (Version v) = v < 2 ^ 62
+IsWord (Version v) = v < 2 ^ 60
 IsWord (NumberTold x) = x < 2 ^ 62
 
 abbrev pub AreWords : List Told → Type 0
@@ -97,15 +116,5 @@ AreWords (t ∷ ts) = IsWord t × AreWords ts
 
 pub record IsLawful {P C : Type 0} (start : C → P) (moves : P → Told → P × Ask) (can_call : C → Type 0) : Type 0 where
   pub first : (call : C) → can_call call → (moves (start call) Begin).1 ≡ Visit 1
-  pub asks : (call : C) (ts : List Told) → can_call call → AreWords ts → IsLawfulAsk (past_of start moves call ts) (reached start moves call ts).1
-
--- a plan that stands for a call of the map settles no debt
-abbrev pub SettlesNothing : {C : Type 0} → (C → Option Call) → (C → Reply → Settle) → Type 0
-SettlesNothing {C} call_of settlement = (call : C) (reply : Reply) → IsSome (call_of call) → settlement call reply ≡ Nothing
-
--- the settlement of a plan of the map
-abbrev pub no_settlement : {C : Type 0} → C → Reply → Settle
-no_settlement call reply = Nothing
-
-pub no_settlement-nothing : {C : Type 0} (call_of : C → Option Call) → SettlesNothing call_of no_settlement
-no_settlement-nothing call_of call reply some = refl
+  pub asks : (call : C) (ts : List Told) → can_call call → AreWords ts
+      → IsLawfulAsk (past_of start moves call ts) (reached start moves call ts).1

@@ -1,4 +1,9 @@
+pub mod Asking
 pub mod Lawful
+pub mod Laws
 pub mod Planned
 pub mod Runs
+pub mod SlotsAfter
+pub mod Terms
 pub mod Traces
+pub mod Walks

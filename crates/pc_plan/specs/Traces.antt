@@ -26,6 +26,12 @@ Tells c (Visit n) (Version v) = (c n VersionField ≡ v) × IsEven v
 Tells c (Read n f) (Number x) = c n f ≡ x
 Tells c _ _ = ⊥
 
+-- a version is told of a visit, and a number of a read
+abbrev pub Fitting : Ask → Told → Type 0
+Fitting (Visit n) (Version v) = Unit {0}
+Fitting (Read n f) (Number x) = Unit {0}
+Fitting _ _ = ⊥
+
 module _ {P : Type 0} (moves : P → Told → P × Ask) where
   -- the state and the ask that a trace leads to
   abbrev pub after : P × Ask → List Told → P × Ask
@@ -36,6 +42,11 @@ module _ {P : Type 0} (moves : P → Told → P × Ask) where
   abbrev pub learned_along : List Event → P × Ask → List Told → List Event
   learned_along past s [] = past
   learned_along past s (t ∷ ts) = learned_along (learned s.1 t past) (moves s.0 t) ts
+
+  -- what is told along a trace is of the kind that is asked for
+  abbrev pub IsAnswered : P × Ask → List Told → Type 0
+  IsAnswered s [] = Unit {0}
+  IsAnswered s (t ∷ ts) = Fitting s.1 t × IsAnswered (moves s.0 t) ts
 
   -- what is told along a trace is what the cells have
   abbrev pub Agrees : Cells → P × Ask → List Told → Type 0

@@ -1,6 +1,6 @@
 //! The exchange that a plan asks for: at most 24 words with their old and new numbers, at most one
 //! fresh node and at most one marked node.
-ghost use Rattle.std.specs.Prelude.{◌≡◌, ◌<◌, [], ◌∷◌, ◌++◌, length, Option, None};
+ghost use Rattle.std.specs.Prelude.{◌≡◌, ◌<◌, ◌≤◌, length};
 
 use pc_model::{Field, Reply};
 use std::marker::Model;
@@ -80,7 +80,7 @@ impl Model for Change {
 }
 
 impl Change {
-    ghost use Rattle.pc_plan.specs.Planned.{replying, with_add, with_charge};
+    ghost use Rattle.pc_plan.specs.Planned.{replying, with_add, with_charge, with_mark, raised, rewritten};
 
     /// Nothing to change yet.
     pub fn new(reply: Reply) -> Change
@@ -97,13 +97,72 @@ impl Change {
         }
     }
 
+    /// Forgets the exchange that stood here: nothing to change yet.
+    #[inline]
+    pub fn restart(&mut self, reply: Reply)
+        ensures { self.new ≡ replying reply }
+    {
+        self.added = 0;
+        self.charges = 0;
+        self.fresh = None;
+        self.mark = None;
+        self.reply = reply;
+    }
+
     /// Adds a word to change, after the others.
+    #[inline]
     pub fn push(&mut self, add: Add)
         requires { length self.old.adds < 24 }
         ensures { self.new ≡ with_add self.old add }
     {
         self.adds[self.added] = add;
         self.added += 1;
+    }
+
+    /// Raises the version of a node that was visited at it: with each change of a node its version goes up
+    /// by two.
+    #[inline]
+    pub fn raise(&mut self, node: u32, version: u64)
+        requires { length self.old.adds < 24 }
+        ensures { self.new ≡ with_add self.old (raised node version) }
+    {
+        let new = To::Number(version.wrapping_add(2));
+        self.push(Add {
+            node,
+            field: Field::Version,
+            old: version,
+            new,
+        });
+    }
+
+    /// Changes a field of a node.
+    #[inline]
+    pub fn rewrite(&mut self, node: u32, field: Field, old: u64, new: To)
+        requires { length self.old.adds < 24 }
+        ensures { self.new ≡ with_add self.old (rewritten node field old new) }
+    {
+        self.push(Add {
+            node,
+            field,
+            old,
+            new,
+        });
+    }
+
+    /// Marks a node that was visited at this version as removed: its version goes up by one.
+    #[inline]
+    pub fn mark_removed(&mut self, node: u32, version: u64)
+        requires { length self.old.adds < 24 }
+        ensures { self.new ≡ with_mark self.old node version }
+    {
+        let new = To::Number(version.wrapping_add(1));
+        self.push(Add {
+            node,
+            field: Field::Version,
+            old: version,
+            new,
+        });
+        self.mark = Some(node);
     }
 
     /// Charges a key, after the others.
@@ -117,14 +176,16 @@ impl Change {
 
     /// The words to change.
     pub fn adds(&self) -> &[Add]
-        ensures { result.now ≡ self.now.adds }
+        ensures words { result.now ≡ self.now.adds }
+        ensures few { length self.now.adds ≤ 24 }
     {
         &self.adds[..self.added]
     }
 
     /// The charged keys.
     pub fn charged(&self) -> &[u64]
-        ensures { result.now ≡ self.now.charged }
+        ensures keys { result.now ≡ self.now.charged }
+        ensures few { length self.now.charged ≤ 4 }
     {
         &self.charged[..self.charges]
     }

@@ -7,6 +7,8 @@ mod change;
 #[cfg(test)]
 mod change_tests;
 mod plan;
+mod walk;
 
 pub use change::{Add, Change, Fresh, To};
-pub use plan::{Ask, Plan, Told};
+pub use plan::{Ask, Plan, Told, Turn};
+pub use walk::{Above, Awaited, SENTINEL, Side, Step, Walk, leads_back, node_of};
