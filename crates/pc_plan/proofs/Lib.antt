@@ -1,3 +1,4 @@
 pub mod Courses
 pub mod Learning
 pub mod Unseen
+pub mod WalkCourses

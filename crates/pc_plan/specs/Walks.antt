@@ -44,9 +44,12 @@ visiting w n = (record { key = w.key; node = n; awaited = AVersion; version = w.
 abbrev pub reading_link : Walk → Side → Walk × Step
 reading_link w s = (awaiting w (Link s), Read w.node (link_of s))
 
--- from a node with a key the walk goes by the link on whose side its own key lies
-abbrev pub going : Walk → ℕ → Walk × Step
-going w k = reading_link w (side_toward w.key k)
+-- from a node with a key the walk goes on by the link on whose side its own key lies
+abbrev pub on_way : Walk → ℕ → Walk
+on_way w k = awaiting w (Link (side_toward w.key k))
+
+abbrev pub way : Walk → ℕ → Field
+way w k = link_of (side_toward w.key k)
 
 -- at the sentinel the walk goes left, at another node it reads the key
 abbrev pub arriving : Walk → ℕ → Walk × Step

@@ -4,9 +4,10 @@
 ghost use Rattle.std.specs.Prelude.{◌≡◌};
 ghost use Rattle.pc_model.specs.Cells.{node_at};
 ghost use Rattle.pc_model.specs.Debts.{has};
-ghost use Rattle.pc_plan.specs.Walks.{link_of, side_toward, walk_of, walk_step, visiting, reading_link, arriving, meeting, following, going};
+ghost use Rattle.pc_plan.specs.Walks.{link_of, side_toward, walk_of, walk_step, visiting, reading_link, arriving, meeting, following, on_way, way};
+ghost use Rattle.pc_plan.specs.declared.plan.Turn.TheVariants.{Read as ToRead};
 
-use crate::plan::Told;
+use crate::plan::{Told, Turn};
 use pc_model::Field;
 
 /// The number of the sentinel. The root is its left child.
@@ -157,10 +158,13 @@ impl Walk {
 
     /// Goes on from a node with this key, by the link on whose side the walk's key lies.
     #[inline]
-    pub fn go_on(&mut self, key: u64) -> Step
-        ensures { (self.new, result) ≡ going self.old key }
+    pub fn go_on(&mut self, key: u64) -> Turn
+        ensures walk { self.new ≡ on_way self.old key }
+        ensures turn { result ≡ ToRead self.old.node (way self.old key) }
     {
-        self.read_link(Side::toward(self.key, key))
+        let side = Side::toward(self.key, key);
+        self.awaited = Awaited::Link(side);
+        Turn::Read(self.node, side.link())
     }
 
     #[inline]
