@@ -1,5 +1,7 @@
 pub mod Courses
 pub mod Learning
+pub mod NodeWords
 pub mod Unseen
 pub mod WalkCourses
 pub mod WalkLawful
+pub mod WrittenWords
