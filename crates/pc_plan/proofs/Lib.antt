@@ -1,4 +1,5 @@
 pub mod Courses
+pub mod LawfulNodes
 pub mod Learning
 pub mod NodeWords
 pub mod Unseen

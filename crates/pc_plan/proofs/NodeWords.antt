@@ -102,18 +102,18 @@ not_among n m xs ne rest = or_from (m == n) (has n xs) (ne_eqb m n (λ e. ne (sy
 pub among_not : (n m : ℕ) (xs : List ℕ) → has n (m ∷ xs) ≡ false → (n ≢ m) × (has n xs ≡ false)
 among_not n m xs e = let parts : ((m == n) ≡ false) × (has n xs ≡ false) = or_parts (m == n) (has n xs) e in (λ same. eqb-false m n parts.0 (sym same), parts.1)
 
-true_and_false : (n : ℕ) (xs : List ℕ) → has n xs ≡ true → has n xs ≡ false → ⊥
+pub true_and_false : (n : ℕ) (xs : List ℕ) → has n xs ≡ true → has n xs ≡ false → ⊥
 true_and_false n xs t f = let e : true ≡ false = sym t ∙ f in absurd (cc)
 
 -- Where the words of an exchange lie
 
-adds_at-in : (n : ℕ) (xs : List FieldChange) (m : ℕ) (f : Field) → Adds m f (adds_at n xs) → (m ≡ n) × (has (field_number f) (numbers_of xs) ≡ true)
+pub adds_at-in : (n : ℕ) (xs : List FieldChange) (m : ℕ) (f : Field) → Adds m f (adds_at n xs) → (m ≡ n) × (has (field_number f) (numbers_of xs) ≡ true)
 adds_at-in n [] m f h = absurd h
 adds_at-in n (x ∷ xs) m f h = ⊎_elim
     (λ e. (sym e.0, subst (λ (g : Field). has (field_number g) (field_number x.field ∷ numbers_of xs) ≡ true) e.1 (has_here (field_number x.field) (numbers_of xs))))
     (λ later. let ih : (m ≡ n) × (has (field_number f) (numbers_of xs) ≡ true) = adds_at-in n xs m f later in (ih.0, has_later (field_number f) (field_number x.field) (numbers_of xs) ih.1)) h
 
-marked_adds-in : (mark : Option Visited) (m : ℕ) (f : Field) → Adds m f (marked_adds mark) → (has m (marked_nodes mark) ≡ true) × (f ≡ Version)
+pub marked_adds-in : (mark : Option Visited) (m : ℕ) (f : Field) → Adds m f (marked_adds mark) → (has m (marked_nodes mark) ≡ true) × (f ≡ Version)
 marked_adds-in None m f h = absurd h
 marked_adds-in (Some v) m f h = ⊎_elim (λ e. (subst (λ (x : ℕ). has x (v.node ∷ []) ≡ true) e.0 (has_here v.node []), sym e.1)) (λ no_more. absurd no_more) h
 
@@ -130,7 +130,7 @@ adds_of-in (w ∷ ws) mark m f h = ⊎_elim
 pub not_added : (ws : List NodeChange) (mark : Option Visited) (m : ℕ) (f : Field) → has m (nodes_of ws mark) ≡ false → Adds m f (adds_of ws mark) → ⊥
 not_added ws mark m f out h = true_and_false m (nodes_of ws mark) (adds_of-in ws mark m f h) out
 
-fields_not_version : (xs : List FieldChange) → AreFields xs → has 0 (numbers_of xs) ≡ false
+pub fields_not_version : (xs : List FieldChange) → AreFields xs → has 0 (numbers_of xs) ≡ false
 fields_not_version [] apart = refl
 fields_not_version (x ∷ xs) apart =
     let ne : field_number x.field ≢ 0 = (among_not (field_number x.field) 0 (numbers_of xs) apart.0).0 in
@@ -207,7 +207,7 @@ head_other slot w ws mark c m ne f =
     words_else slot (adds_at w.node w.fields) (written w.node Version ((w.version + 2) % 2 ^ 64) c) m f (λ h. ne (adds_at-in w.node w.fields m f h).0)
     ∙ written-other_node w.node Version ((w.version + 2) % 2 ^ 64) c m f ne
 
-words_of_node : (slot : ℕ) (ws : List NodeChange) (mark : Option Visited) (c : Cells) (w : NodeChange) (f : Field) → AreDifferent (nodes_of ws mark) → HaveFields ws → IsAmong w ws
+pub words_of_node : (slot : ℕ) (ws : List NodeChange) (mark : Option Visited) (c : Cells) (w : NodeChange) (f : Field) → AreDifferent (nodes_of ws mark) → HaveFields ws → IsAmong w ws
     → with_words slot (adds_of ws mark) c w.node f ≡ field_after slot w c f
 words_of_node slot [] mark c w f different fields i = absurd i
 words_of_node slot (x ∷ xs) mark c w f different fields i = ⊎_elim
@@ -219,18 +219,18 @@ words_of_node slot (x ∷ xs) mark c w f different fields i = ⊎_elim
     ∙ ap (λ (y : ℕ). looked_up slot f w.fields (if field_number f == 0 then (w.version + 2) % 2 ^ 64 else y)) (head_other slot x xs mark c w.node ne f))
     i
 
-words_of_mark : (slot : ℕ) (ws : List NodeChange) (v : Visited) (c : Cells) → AreDifferent (nodes_of ws (Some v))
+pub words_of_mark : (slot : ℕ) (ws : List NodeChange) (v : Visited) (c : Cells) → AreDifferent (nodes_of ws (Some v))
     → with_words slot (adds_of ws (Some v)) c v.node Version ≡ (v.version + 1) % 2 ^ 64
 words_of_mark slot [] v c different = written-here v.node Version ((v.version + 1) % 2 ^ 64) c
 words_of_mark slot (x ∷ xs) v c different =
     (λ k. words_append slot (adds_at x.node x.fields) (adds_of xs (Some v)) (written x.node Version ((x.version + 2) % 2 ^ 64) c) k v.node Version)
     ∙ words_of_mark slot xs v (with_words slot (adds_at x.node x.fields) (written x.node Version ((x.version + 2) % 2 ^ 64) c)) different.1
 
-has_mark : (ws : List NodeChange) (v : Visited) → has v.node (nodes_of ws (Some v)) ≡ true
+pub has_mark : (ws : List NodeChange) (v : Visited) → has v.node (nodes_of ws (Some v)) ≡ true
 has_mark [] v = has_here v.node []
 has_mark (w ∷ ws) v = has_later v.node w.node (nodes_of ws (Some v)) (has_mark ws v)
 
-mark_fields-in : (ws : List NodeChange) (v : Visited) (f : Field) → AreDifferent (nodes_of ws (Some v)) → Adds v.node f (adds_of ws (Some v)) → f ≡ Version
+pub mark_fields-in : (ws : List NodeChange) (v : Visited) (f : Field) → AreDifferent (nodes_of ws (Some v)) → Adds v.node f (adds_of ws (Some v)) → f ≡ Version
 mark_fields-in [] v f different h = (marked_adds-in (Some v) v.node f h).1
 mark_fields-in (w ∷ ws) v f different h =
     let ne : v.node ≢ w.node = λ e. true_and_false w.node (nodes_of ws (Some v)) (subst (λ (y : ℕ). has y (nodes_of ws (Some v)) ≡ true) e (has_mark ws v)) different.0 in
