@@ -1,26 +1,25 @@
 -- An exchange by nodes is lawful where its nodes are different and its numbers were told, and what it
 -- leaves is looked up node by node.
-use Rattle.std.proofs.Common.{◌≡◌, ◌≢◌, ℕ, ◌+◌, ◌%◌, ◌^◌, ◌<◌, ◌≤◌, ◌==◌, ◌⊎◌, inl, inr, ⊎_elim, if◌then◌else◌, true, false, List, [], ◌∷◌, ◌++◌, length, Option, Some, None, refl, sym, ap, ◌∙◌, subst, arith}
+use Rattle.std.proofs.Common.{◌≡◌, ◌≢◌, ℕ, ◌+◌, ◌%◌, ◌^◌, ◌<◌, ◌≤◌, ◌==◌, inl, inr, ⊎_elim, if◌then◌else◌, true, false, List, [], ◌∷◌, ◌++◌, length, Option, Some, None, refl, sym, ap, ◌∙◌, subst, arith}
 use Rattle.std.specs.Prelude.{IsSome, IfSome}
 use Rattle.std.proofs.lemmas.Bool.{eq-eqb, ne_eqb, cond-true, cond-false}
 use Rattle.pc_model.specs.declared.cell.Field.{Field}
 use Rattle.pc_model.specs.declared.cell.Field.TheVariants.{Version}
 use Rattle.pc_model.specs.Cells.{Cells, field_number}
 use Rattle.pc_model.specs.Debts.{has, AreDifferent}
-use Rattle.pc_model.specs.Exchanges.{Visited, Exchange, FreshNode, with_fresh, applied}
+use Rattle.pc_model.specs.Exchanges.{Visited, with_fresh, applied}
 use Rattle.pc_model.proofs.Writes.{with_node-here, with_node-other}
-use Rattle.pc_plan.specs.declared.change.To.{To}
 use Rattle.pc_plan.specs.declared.change.To.TheVariants.{Number, Fresh as FreshNumber}
 use Rattle.pc_plan.specs.declared.change.Add.{Add}
 use Rattle.pc_plan.specs.declared.change.Fresh.{Fresh}
 use Rattle.pc_plan.specs.SlotsAfter.{is_node}
 use Rattle.pc_plan.specs.Traces.{Event, version_seen, number_seen}
 use Rattle.pc_plan.specs.Planned.{raised, removed}
-use Rattle.pc_plan.specs.Runs.{number_at, fresh_fields, fresh_at, exchange_of}
+use Rattle.pc_plan.specs.Runs.{fresh_fields, fresh_at, exchange_of}
 use Rattle.pc_plan.specs.Lawful.{rise_of, FitsWord, AreFitting, IsToldFresh, IsToldWord, AreToldWords, Adds, AreOnce, AddsVersions, NamesFresh, MarksAlone, IsLawfulChange}
 use Rattle.pc_plan.proofs.Learning.{is_some-seen}
 use Rattle.pc_plan.proofs.WrittenWords.{with_words, words_else, adds_append, adds_behind}
-use Rattle.pc_plan.proofs.NodeWords.{FieldChange, NodeChange, adds_at, marked_adds, adds_of, marked_nodes, nodes_of, mark_of, ByNodes, planned_by, numbers_of, AreFields, among_not, true_and_false, adds_at-in, marked_adds-in, not_added, fields_not_version, looked_up, field_after, IsAmong, HaveFields, words_of_node, words_of_mark, has_mark, mark_fields-in}
+use Rattle.pc_plan.proofs.NodeWords.{FieldChange, NodeChange, adds_at, adds_of, nodes_of, mark_of, ByNodes, planned_by, numbers_of, AreFields, among_not, true_and_false, adds_at-in, not_added, fields_not_version, looked_up, field_after, IsAmong, HaveFields, words_of_node, words_of_mark, has_mark, mark_fields-in}
 
 -- these fields of a node were told, and what they get fits
 abbrev pub AreToldFields : List Event → Option Fresh → ℕ → List FieldChange → Type 0
@@ -137,8 +136,8 @@ module _ (past : List Event) (fresh : Option Fresh) where
   nodes_told (w ∷ ws) mark told marked different = (
     raised_told past fresh (mark_of mark) w.node w.version told.0.seen told.0.small (not_marked ws mark w.node different.0),
     told_append past (mark_of mark) (adds_at w.node w.fields) (adds_of ws mark)
-    (fields_told past fresh (mark_of mark) w.node w.version told.0.seen told.0.small w.fields told.0.told told.0.fields)
-    (nodes_told ws mark told.1 marked different.1),
+        (fields_told past fresh (mark_of mark) w.node w.version told.0.seen told.0.small w.fields told.0.told told.0.fields)
+        (nodes_told ws mark told.1 marked different.1),
   )
 
   nodes_fit : (ws : List NodeChange) (mark : Option Visited) → AreToldNodes past fresh ws → IsToldMark past mark → AreFitting (adds_of ws mark)
@@ -165,7 +164,7 @@ nodes_once (w ∷ ws) mark fields different = (
       (λ a. true_and_false 0 (numbers_of w.fields) (adds_at-in w.node w.fields w.node Version a).1 (fields_not_version w.fields fields.0))
       (λ b. not_added ws mark w.node Version different.0 b) (adds_append w.node Version (adds_at w.node w.fields) (adds_of ws mark) d),
   once_append (adds_at w.node w.fields) (adds_of ws mark) (fields_once w.node w.fields fields.0) (nodes_once ws mark fields.1 different.1)
-  (λ m f a b. not_added ws mark m f (subst (λ (x : ℕ). has x (nodes_of ws mark) ≡ false) (sym (adds_at-in w.node w.fields m f a).0) different.0) b),
+      (λ m f a b. not_added ws mark m f (subst (λ (x : ℕ). has x (nodes_of ws mark) ≡ false) (sym (adds_at-in w.node w.fields m f a).0) different.0) b),
 )
 
 mark_version : (ws : List NodeChange) (v : Visited) → Adds v.node Version (adds_of ws (Some v))
@@ -178,9 +177,11 @@ nodes_versions : (all : List Add) (ws : List NodeChange) (mark : Option Visited)
 nodes_versions all [] None there = tt
 nodes_versions all [] (Some v) there = (there v.node (inl (refl, refl)), tt)
 nodes_versions all (w ∷ ws) mark there =
-    let here : Adds w.node Version all = there w.node (inl (refl, refl)) in
-    (here, versions_append all (adds_at w.node w.fields) (adds_of ws mark) (fields_versions all w.node w.fields here)
-    (nodes_versions all ws mark (λ m d. there m (inr (adds_behind m Version (adds_at w.node w.fields) (adds_of ws mark) d)))))
+    let here : Adds w.node Version all = there w.node (inl (refl, refl)) in (
+      here,
+      versions_append all (adds_at w.node w.fields) (adds_of ws mark) (fields_versions all w.node w.fields here)
+          (nodes_versions all ws mark (λ m d. there m (inr (adds_behind m Version (adds_at w.node w.fields) (adds_of ws mark) d)))),
+    )
 
 marks_alone : (ws : List NodeChange) (mark : Option Visited) → AreDifferent (nodes_of ws mark) → MarksAlone (mark_of mark) (adds_of ws mark)
 marks_alone ws None different = tt

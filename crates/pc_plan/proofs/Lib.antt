@@ -1,4 +1,6 @@
+pub mod Agreement
 pub mod Courses
+pub mod FittingPlans
 pub mod LawfulNodes
 pub mod Learning
 pub mod NodeWords

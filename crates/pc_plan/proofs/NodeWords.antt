@@ -1,28 +1,23 @@
 -- Exchanges by their nodes: each changed node with the version that it was visited at and the fields that
 -- change, and the node that is marked. That nodes are different is said once, that the fields of a node are
 -- is seen by computing, and what the exchange leaves is looked up.
-use Rattle.std.proofs.Common.{◌≡◌, ◌≢◌, ℕ, ◌+◌, ◌%◌, ◌^◌, ◌<◌, ◌≤◌, ◌==◌, ◌⊎◌, inl, inr, ⊎_elim, if◌then◌else◌, Bool, ◌||◌, true, false, List, [], ◌∷◌, ◌++◌, length, Option, Some, None, refl, sym, ap, ◌∙◌, subst, arith}
-use Rattle.std.specs.Prelude.{map, IsSome, IfSome}
+use Rattle.std.proofs.Common.{◌≡◌, ◌≢◌, ℕ, ◌+◌, ◌%◌, ◌^◌, ◌==◌, ◌⊎◌, ⊎_elim, if◌then◌else◌, Bool, ◌||◌, true, false, List, [], ◌∷◌, ◌++◌, Option, Some, None, refl, sym, ap, ◌∙◌, subst}
 use Rattle.std.proofs.Math.Bool.{or-true}
-use Rattle.std.proofs.lemmas.Bool.{cases_eq, cases_Bool, eq-eqb, eqb-true, eqb-false, ne_eqb, or_from, or_parts, cond-true, cond-false}
+use Rattle.std.proofs.lemmas.Bool.{cases_Bool, eq-eqb, eqb-true, eqb-false, ne_eqb, or_from, or_parts, cond-true, cond-false}
 use Rattle.pc_model.specs.declared.cell.Field.{Field}
 use Rattle.pc_model.specs.declared.cell.Field.TheVariants.{Version}
 use Rattle.pc_model.specs.declared.call.Reply.{Reply}
-use Rattle.pc_model.specs.Cells.{Cells, IsOdd, field_number, written}
+use Rattle.pc_model.specs.Cells.{Cells, field_number, written}
 use Rattle.pc_model.specs.Debts.{has, AreDifferent}
-use Rattle.pc_model.specs.Exchanges.{Visited, with_fresh, applied}
-use Rattle.pc_model.proofs.Writes.{written-here, written-else, written-other_node, same_field, with_node-here, with_node-other}
+use Rattle.pc_model.specs.Exchanges.{Visited}
+use Rattle.pc_model.proofs.Writes.{written-here, written-else, written-other_node, same_field}
 use Rattle.pc_plan.specs.declared.change.To.{To}
-use Rattle.pc_plan.specs.declared.change.To.TheVariants.{Number, Fresh as FreshNumber}
 use Rattle.pc_plan.specs.declared.change.Add.{Add}
 use Rattle.pc_plan.specs.declared.change.Fresh.{Fresh}
 use Rattle.pc_plan.specs.Planned.{Planned, raised, removed, rewritten}
-use Rattle.pc_plan.specs.SlotsAfter.{is_node}
-use Rattle.pc_plan.specs.Traces.{Event, version_seen, number_seen}
-use Rattle.pc_plan.specs.Runs.{number_at, fresh_fields, fresh_at, exchange_of}
-use Rattle.pc_plan.specs.Lawful.{rise_of, FitsWord, AreFitting, IsToldFresh, AreToldWords, Adds, AreOnce, AddsVersions, NamesFresh, MarksAlone, IsLawfulChange}
-use Rattle.pc_plan.proofs.Learning.{is_some-seen}
-use Rattle.pc_plan.proofs.WrittenWords.{with_words, words_else, words_append, adds_append, adds_behind}
+use Rattle.pc_plan.specs.Runs.{number_at}
+use Rattle.pc_plan.specs.Lawful.{Adds}
+use Rattle.pc_plan.proofs.WrittenWords.{with_words, words_else, words_append, adds_append}
 
 -- a field that goes from a number to what it gets
 pub record FieldChange : Type 0 where

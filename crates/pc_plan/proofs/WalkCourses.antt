@@ -1,7 +1,7 @@
 -- The course of a walk on a search tree that stands still, for every plan that begins with one. What the
 -- plan keeps on the way is a parameter, with what is good of it at each hole; so are its steps at a node
 -- whose key it was told, and at a link that names no node.
-use Rattle.std.proofs.Common.{◌≡◌, ◌≢◌, ℕ, suc, ◌+◌, ◌*◌, ◌<◌, ◌≤◌, ◌==◌, inl, inr, ⊎_elim, if◌then◌else◌, false, List, [], ◌∷◌, Some, None, refl, sym, ap, ◌∙◌, subst, arith}
+use Rattle.std.proofs.Common.{◌≡◌, ◌≢◌, ℕ, suc, ◌+◌, ◌*◌, ◌<◌, ◌≤◌, ◌==◌, inl, ⊎_elim, false, List, [], ◌∷◌, Some, None, refl, sym, ap, ◌∙◌, subst, arith}
 use Rattle.std.specs.Prelude.{max}
 use Rattle.std.proofs.lemmas.Bool.{ne_eqb, cases_order, lt-ltb, le-ltb, cond-true, cond-false}
 use Rattle.std.specs.Prelude.{nat_lt}
@@ -10,7 +10,7 @@ use Rattle.pc_model.specs.declared.cell.Field.TheVariants.{Version as VersionFie
 use Rattle.pc_model.specs.Map.{Pairs}
 use Rattle.pc_model.specs.Cells.{Cells, IsSlot, node_at}
 use Rattle.pc_model.specs.Debts.{has}
-use Rattle.pc_model.specs.Trees.{Tree, Empty, Fork, Kind, IsTreeNode, IsIn, size_of, IsSearchTree}
+use Rattle.pc_model.specs.Trees.{Tree, Empty, Fork, Kind, IsTreeNode, size_of, IsSearchTree}
 use Rattle.pc_model.proofs.Framing.{Apart}
 use Rattle.pc_model.proofs.Holes.{Hole, root_hole, hole_apart, left_hole, right_hole}
 use Rattle.pc_model.proofs.Links.{node_at-node}
@@ -27,8 +27,8 @@ use Rattle.pc_plan.specs.declared.walk.Awaited.TheVariants.{Version as AVersion,
 use Rattle.pc_plan.specs.declared.walk.Walk.{Walk}
 use Rattle.pc_plan.specs.declared.walk.Step.{Step}
 use Rattle.pc_plan.specs.declared.walk.Step.TheVariants.{Visit, Read, Here, Missing, Astray}
-use Rattle.pc_plan.specs.Traces.{Event, visited, found, version_seen}
-use Rattle.pc_plan.specs.Walks.{link_of, side_toward, walk_of, at_version, reading_link, arriving, descending, following, on_way, way, walk_step}
+use Rattle.pc_plan.specs.Traces.{Event, visited, found}
+use Rattle.pc_plan.specs.Walks.{link_of, side_toward, walk_of, at_version, reading_link, following, on_way, way, walk_step}
 use Rattle.pc_plan.proofs.Courses.{Course, more_turns}
 use Rattle.pc_plan.proofs.Unseen.{IsUnseen, unseen_left, unseen_right, unseen_whole}
 

@@ -1,4 +1,5 @@
 pub mod Asking
+pub mod Fitting
 pub mod Lawful
 pub mod Laws
 pub mod Planned

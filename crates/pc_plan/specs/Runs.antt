@@ -1,7 +1,7 @@
 -- The law of a plan on sound cells: whatever trace agrees with the cells, the plan can go on, it ends
 -- within its bound, and it ends in a right reply, with an exchange that stands, leaves sound cells with the
 -- right pairs, and charges each debt that it brings; and what it settles is charged or isn't in debt then.
-use Rattle.std.specs.Prelude.{◌≡◌, ℕ, ◌+◌, ◌*◌, ◌<◌, ◌≤◌, ◌⊎◌, IsTrue, List, [], ◌∷◌, map, length, Option, Some, None, IfSome}
+use Rattle.std.specs.Prelude.{◌≡◌, ℕ, ◌+◌, ◌*◌, ◌<◌, ◌≤◌, ◌⊎◌, IsTrue, List, [], map, length, Option, Some, None, IfSome}
 use Rattle.pc_model.specs.declared.cell.Field.{Field}
 use Rattle.pc_model.specs.declared.cell.Field.TheVariants.{Version as VersionField, Key, Value, Left, Right, Parent, Height, Spare}
 use Rattle.pc_model.specs.declared.owed.Settle.{Settle}
@@ -20,7 +20,7 @@ use Rattle.pc_plan.specs.declared.plan.Ask.TheVariants.{Visit, Read, Change, Ans
 use Rattle.pc_plan.specs.declared.plan.Told.{Told}
 use Rattle.pc_plan.specs.declared.plan.Told.TheVariants.{Begin}
 use Rattle.pc_plan.specs.Planned.{Planned}
-use Rattle.pc_plan.specs.Terms.{Terms, Outcome, IsReply}
+use Rattle.pc_plan.specs.Terms.{Terms, IsReply}
 use Rattle.pc_plan.specs.Traces.{Event, after, learned_along, Agrees, IsAnswered, visits_in, reads_in, version_seen}
 
 -- the number that a word gets where the fresh node takes this slot

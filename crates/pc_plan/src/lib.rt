@@ -6,9 +6,11 @@
 mod change;
 #[cfg(test)]
 mod change_tests;
+mod laws;
 mod plan;
 mod walk;
 
 pub use change::{Add, Change, Fresh, To};
+pub use laws::{exchanges_fit, standing_is_agreeing};
 pub use plan::{Ask, Plan, Told, Turn};
 pub use walk::{Above, Awaited, SENTINEL, Side, Step, Walk, leads_back, node_of};
