@@ -13,7 +13,9 @@ pub mod Replaying
 pub mod Sizes
 pub mod SortedLists
 pub mod Soundness
+pub mod TreeFormLaws
 pub mod Worked
+pub mod WorkedBalance
 pub mod WorkedCells
 pub mod WorkedDebts
 pub mod Writes

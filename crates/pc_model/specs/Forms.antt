@@ -1,11 +1,10 @@
 -- The form of some cells: when they are sound, and with which pairs, and which keys are in debt in them.
 -- An exchange fits a form where it keeps cells sound and charges each debt that it brings.
-use Rattle.std.specs.Prelude.{◌≡◌, ℕ, ◌≤◌, ◌<◌, ◌⊎◌, IsTrue, List, length, Option, Some, None}
+use Rattle.std.specs.Prelude.{ℕ, ◌≤◌, ◌<◌, ◌⊎◌, IsTrue, List, Option, Some, None}
 use Rattle.pc_model.specs.declared.owed.Settle.{Settle}
 use Rattle.pc_model.specs.declared.owed.Settle.TheVariants.{Nothing, Release, First, Raise}
 use Rattle.pc_model.specs.Map.{Pairs}
-use Rattle.pc_model.specs.declared.cell.Field.TheVariants.{Version}
-use Rattle.pc_model.specs.Cells.{Cells, IsEven, IsSlot, SameButVersions}
+use Rattle.pc_model.specs.Cells.{Cells}
 use Rattle.pc_model.specs.Debts.{has}
 use Rattle.pc_model.specs.Exchanges.{Exchange, Stands, applied}
 
@@ -41,14 +40,3 @@ MaySettle form slots e charged lower Nothing = Unit {0}
 MaySettle form slots e charged lower (Release k) = IsTrue (has k charged) ⊎ PutsRight form slots e k
 MaySettle form slots e charged lower (First k) = Unit {0}
 MaySettle form slots e charged lower (Raise to) = (k : ℕ) → lower ≤ k → IsBelowEnd k to → IsTrue (has k charged) ⊎ PutsRight form slots e k
-
--- What holds of every form: of versions only parity matters, sound cells in which every slot is in use have
--- as many pairs as slots, and the sentinel of sound cells is unmarked.
-pub record FormLaws (form : Form) : Type 0 where
-  pub parity : (slots : ℕ) (c c' : Cells) (ps : Pairs) → SameButVersions slots c c' → form.sound slots c ps
-      → form.sound slots c' ps
-  pub debt_parity : (slots : ℕ) (c c' : Cells) (ps : Pairs) (k : ℕ) → SameButVersions slots c c'
-      → form.sound slots c ps → form.in_debt slots c' k → form.in_debt slots c k
-  pub full : (slots : ℕ) (c : Cells) (ps : Pairs) → form.sound slots c ps
-      → ((n : ℕ) → IsSlot slots n → IsEven (c n Version)) → length ps ≡ slots
-  pub sentinel : (slots : ℕ) (c : Cells) (ps : Pairs) → form.sound slots c ps → IsEven (c 1 Version)

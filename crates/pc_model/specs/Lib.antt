@@ -6,9 +6,11 @@ pub mod Debts
 pub mod EntryLaws
 pub mod Exchanges
 pub mod FirstWrong
+pub mod FormLaws
 pub mod Forms
 pub mod History
 pub mod Map
 pub mod MapLaws
 pub mod Replay
+pub mod TreeForms
 pub mod Trees
