@@ -5,11 +5,13 @@ pub mod Framing
 pub mod Histories
 pub mod HolePairs
 pub mod Holes
+pub mod Insertion
 pub mod Links
 pub mod MapLawProofs
 pub mod OrderedMaps
 pub mod Removal
 pub mod Replaying
+pub mod Sides
 pub mod Sizes
 pub mod SortedLists
 pub mod Soundness

@@ -5,7 +5,6 @@ use Rattle.std.proofs.lemmas.Bool.{cases_Bool, eqb-false, ne_eqb, le-ltb, cond-t
 use Rattle.pc_model.specs.declared.cell.Field.{Field}
 use Rattle.pc_model.specs.declared.cell.Field.TheVariants.{Version, Key, Value, Left, Right, Parent, Height}
 use Rattle.pc_model.specs.Cells.{node_at}
-use Rattle.pc_model.proofs.Holes.{other_link}
 
 -- a link that names a node is its number, which isn't 0
 pub node_at-some : (x m : ℕ) → node_at x ≡ Some m → (x ≡ m) × (m ≢ 0)
@@ -32,14 +31,12 @@ pub record IsLinkAlone (side : Field) : Type 0 where
   pub value : Value ≢ side
   pub parent : Parent ≢ side
   pub height : Height ≢ side
-  pub other : other_link side ≢ side
-  pub other_version : other_link side ≢ Version
 
 left_alone : IsLinkAlone Left
-left_alone = record { version = λ e. cc; key = λ e. cc; value = λ e. cc; parent = λ e. cc; height = λ e. cc; other = λ e. cc; other_version = λ e. cc }
+left_alone = record { version = λ e. cc; key = λ e. cc; value = λ e. cc; parent = λ e. cc; height = λ e. cc }
 
 right_alone : IsLinkAlone Right
-right_alone = record { version = λ e. cc; key = λ e. cc; value = λ e. cc; parent = λ e. cc; height = λ e. cc; other = λ e. cc; other_version = λ e. cc }
+right_alone = record { version = λ e. cc; key = λ e. cc; value = λ e. cc; parent = λ e. cc; height = λ e. cc }
 
 pub link_alone : (side : Field) → (side ≡ Left) ⊎ (side ≡ Right) → IsLinkAlone side
 link_alone side link = ⊎_elim (λ e. subst IsLinkAlone (sym e) left_alone) (λ e. subst IsLinkAlone (sym e) right_alone) link

@@ -12,5 +12,6 @@ pub mod History
 pub mod Map
 pub mod MapLaws
 pub mod Replay
+pub mod Sides
 pub mod TreeForms
 pub mod Trees

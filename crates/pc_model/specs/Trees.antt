@@ -19,6 +19,11 @@ abbrev pub IsOfKind : Kind → Cells → ℕ → ℕ → Type 0
 IsOfKind plain c above n = (c n Parent ≡ 0) × (c n Height ≡ 0)
 IsOfKind balanced c above n = (c n Parent ≡ above) × (c n Height < 2 ^ 62)
 
+-- the parent of a node that comes to hang below another: a plain tree has no parents, so none changes
+abbrev pub parent_for : Kind → ℕ → ℕ → ℕ
+parent_for plain above old = old
+parent_for balanced above old = above
+
 -- a node of the tree is a slot in use, of the tree's kind
 pub record IsTreeNode (kind : Kind) (slots : ℕ) (c : Cells) (above n : ℕ) : Type 0 where
   pub slot : IsSlot slots n
