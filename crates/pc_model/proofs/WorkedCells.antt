@@ -1,6 +1,6 @@
 -- The definitions of cells, exchanges, trees and histories on a worked case: a put of key 5 on the cells
 -- that a tree of one slot opens with, and then a get of it.
-use Rattle.std.proofs.Common.{◌≡◌, ℕ, ◌%◌, inl, List, [], ◌∷◌, Some, refl, subst, arith}
+use Rattle.std.proofs.Common.{◌≡◌, ℕ, ◌%◌, inl, List, [], ◌∷◌, Some, refl, sym, subst, arith}
 use Rattle.pc_model.specs.declared.call.Call.TheVariants.{Put, Get}
 use Rattle.pc_model.specs.declared.call.Reply.TheVariants.{New, Value as Found}
 use Rattle.pc_model.specs.declared.call.Entry.{Entry}
@@ -11,7 +11,11 @@ use Rattle.pc_model.specs.History.{IsHistoryOf}
 use Rattle.pc_model.specs.Cells.{Cells, opening_fields}
 use Rattle.pc_model.specs.Exchanges.{Exchange, Stands, applied}
 use Rattle.pc_model.specs.Trees.{Empty, Fork, plain, pairs_of, IsSearchTree}
+use Rattle.pc_model.specs.Map.{put}
 use Rattle.pc_model.proofs.Histories.{one_client_history}
+use Rattle.pc_model.proofs.Writes.{applied-else, applied-parity}
+use Rattle.pc_model.proofs.Holes.{root_hole}
+use Rattle.pc_model.proofs.Insertion.{IsHung, leaf_hung}
 
 opening : Cells
 opening = opening_fields
@@ -92,6 +96,27 @@ one_leaf_tree = record {
   no_right = refl;
   no_parent = refl;
 }
+
+-- the leaf hangs where it should, so the same follows from what holds of every leaf that does
+leaf_is_hung : IsHung plain opening with_leaf 1 Left 2 5 50
+unfolding with_leaf opening hang_leaf leaf_fields
+leaf_is_hung = record {
+  linked = refl;
+  key = refl;
+  value = refl;
+  no_left = refl;
+  no_right = refl;
+  of_kind = (refl, refl);
+  unmarked = refl;
+  words = λ m f not_leaf not_version not_link. applied-else hang_leaf opening_fields m f ((λ _. not_version), (not_link, tt)) not_leaf;
+  parity = λ m not_leaf. applied-parity hang_leaf opening_fields m
+      ((λ e _. let one : m ≡ 1 = e in subst (λ (x : ℕ). 2 % 2 ≡ opening_fields x Version % 2) (sym one) refl), ((λ _ e. cc), tt)) not_leaf;
+}
+
+leaf_tree_again : IsSearchTree plain 1 with_leaf (put 5 50 [])
+unfolding opening empty_tree
+leaf_tree_again = leaf_hung plain 1 opening [] empty_tree 5 50 1 Left (omega arith) (omega arith) 2 with_leaf
+    (root_hole plain 1 opening [] empty_tree 5) (omega arith, omega arith) refl leaf_is_hung
 
 two_entries : List Entry
 two_entries = record { pass = 1; number = 1; call = Put 5 50; reply = New; stamp = 1 } ∷ record { pass = 1; number = 2; call = Get 5; reply = Found 50; stamp = 2 } ∷ []

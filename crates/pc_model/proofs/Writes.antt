@@ -1,9 +1,11 @@
--- What cells hold after a word or a whole node is written.
-use Rattle.std.proofs.Common.{◌≡◌, ◌≢◌, ℕ, zero, suc, ◌==◌, ⊎_elim, if◌then◌else◌, Bool, true, false, refl, sym, ap, ◌∙◌}
+-- What cells hold after a word or a whole node is written, and after an exchange.
+use Rattle.std.proofs.Common.{◌≡◌, ◌≢◌, ℕ, zero, suc, ◌%◌, ◌==◌, ⊎_elim, if◌then◌else◌, Bool, true, false}
+use Rattle.std.proofs.Common.{List, [], ◌∷◌, Option, Some, None, refl, sym, ap, ◌∙◌}
 use Rattle.std.proofs.lemmas.Bool.{cases_eq, eq-eqb, ne_eqb, cond-true, cond-false}
 use Rattle.pc_model.specs.declared.cell.Field.{Field}
 use Rattle.pc_model.specs.declared.cell.Field.TheVariants.{Version, Key, Value, Left, Right, Parent, Height, Spare}
 use Rattle.pc_model.specs.Cells.{Cells, field_number, written, with_node}
+use Rattle.pc_model.specs.Exchanges.{Changed, FreshNode, Exchange, with_changes, with_fresh, applied}
 
 -- the field with a number
 abbrev field_at : ℕ → Field
@@ -53,3 +55,68 @@ with_node-here n fields c g = cond-true (n == n) (fields g) (c n g) (eq-eqb n n 
 
 pub with_node-other : (n : ℕ) (fields : Field → ℕ) (c : Cells) (m : ℕ) (g : Field) → m ≢ n → with_node n fields c m g ≡ c m g
 with_node-other n fields c m g ne = cond-false (m == n) (fields g) (c m g) (ne_eqb m n ne)
+
+-- After an exchange
+
+-- none of the changes is of this word
+abbrev pub IsUnchanged : ℕ → Field → List Changed → Type 0
+IsUnchanged m f [] = Unit {0}
+IsUnchanged m f (a ∷ changes) = (m ≡ a.node → f ≢ a.field) × IsUnchanged m f changes
+
+-- the node isn't the fresh one
+abbrev pub IsNotFresh : ℕ → Option FreshNode → Type 0
+IsNotFresh m None = Unit {0}
+IsNotFresh m (Some fresh) = m ≢ fresh.node
+
+-- each change of the node's version is to the parity that it has in these cells
+abbrev pub KeepsParity : Cells → ℕ → List Changed → Type 0
+KeepsParity c m [] = Unit {0}
+KeepsParity c m (a ∷ changes) = (m ≡ a.node → Version ≡ a.field → a.new % 2 ≡ c m Version % 2) × KeepsParity c m changes
+
+pub with_changes-else : (changes : List Changed) (c : Cells) (m : ℕ) (f : Field) → IsUnchanged m f changes
+    → with_changes changes c m f ≡ c m f
+with_changes-else [] c m f un = refl
+with_changes-else (a ∷ changes) c m f un = with_changes-else changes (written a.node a.field a.new c) m f un.1
+    ∙ written-else a.node a.field a.new c m f un.0
+
+-- the word of a change that no later one is of
+pub with_changes-here : (a : Changed) (changes : List Changed) (c : Cells) → IsUnchanged a.node a.field changes
+    → with_changes (a ∷ changes) c a.node a.field ≡ a.new
+with_changes-here a changes c un = with_changes-else changes (written a.node a.field a.new c) a.node a.field un
+    ∙ written-here a.node a.field a.new c
+
+-- the word of a change, where the word is given by equations
+written-there : (a : Changed) (d : Cells) (m : ℕ) (f : Field) → m ≡ a.node → f ≡ a.field → written a.node a.field a.new d m f ≡ a.new
+written-there a d m f node field =
+    (λ i. written a.node a.field a.new d (node i) (field i)) ∙ written-here a.node a.field a.new d
+
+written-parity : (c : Cells) (m : ℕ) (a : Changed) (d : Cells) → (m ≡ a.node → Version ≡ a.field → a.new % 2 ≡ c m Version % 2)
+    → d m Version % 2 ≡ c m Version % 2 → written a.node a.field a.new d m Version % 2 ≡ c m Version % 2
+written-parity c m a d keeps same = ⊎_elim
+    (λ node. ⊎_elim
+    (λ number. let field : Version ≡ a.field = same_field Version a.field number in
+    ap (λ (x : ℕ). x % 2) (written-there a d m Version node field) ∙ keeps node field)
+    (λ number. ap (λ (x : ℕ). x % 2) (written-other_field a.node a.field a.new d m Version number) ∙ same)
+    (cases_eq (field_number Version) (field_number a.field)))
+    (λ node. ap (λ (x : ℕ). x % 2) (written-other_node a.node a.field a.new d m Version node) ∙ same)
+    (cases_eq m a.node)
+
+with_changes-parity : (c : Cells) (m : ℕ) (changes : List Changed) (d : Cells) → KeepsParity c m changes
+    → d m Version % 2 ≡ c m Version % 2 → with_changes changes d m Version % 2 ≡ c m Version % 2
+with_changes-parity c m [] d keeps same = same
+with_changes-parity c m (a ∷ changes) d keeps same =
+    with_changes-parity c m changes (written a.node a.field a.new d) keeps.1 (written-parity c m a d keeps.0 same)
+
+with_fresh-other : (fresh : Option FreshNode) (c : Cells) (m : ℕ) (f : Field) → IsNotFresh m fresh → with_fresh fresh c m f ≡ c m f
+with_fresh-other None c m f other = refl
+with_fresh-other (Some fresh) c m f other = with_node-other fresh.node fresh.fields c m f other
+
+module _ (e : Exchange) (c : Cells) (m : ℕ) where
+  -- a word that the exchange doesn't change
+  pub applied-else : (f : Field) → IsUnchanged m f e.changes → IsNotFresh m e.fresh → applied e c m f ≡ c m f
+  applied-else f un other = with_changes-else e.changes (with_fresh e.fresh c) m f un ∙ with_fresh-other e.fresh c m f other
+
+  -- a version whose parity the exchange keeps
+  pub applied-parity : KeepsParity c m e.changes → IsNotFresh m e.fresh → applied e c m Version % 2 ≡ c m Version % 2
+  applied-parity keeps other = with_changes-parity c m e.changes (with_fresh e.fresh c) keeps
+      (ap (λ (x : ℕ). x % 2) (with_fresh-other e.fresh c m Version other))
