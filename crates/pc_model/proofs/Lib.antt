@@ -16,8 +16,10 @@ pub mod Sizes
 pub mod SortedLists
 pub mod Soundness
 pub mod TreeFormLaws
+pub mod TreeNodes
 pub mod Worked
 pub mod WorkedBalance
 pub mod WorkedCells
 pub mod WorkedDebts
+pub mod WorkedRemoval
 pub mod Writes

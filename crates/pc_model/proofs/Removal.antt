@@ -12,6 +12,7 @@ use Rattle.pc_model.specs.Sides.{Side, left, right, link_of, fork_on}
 use Rattle.pc_model.proofs.SortedLists.{without_rises, without_small}
 use Rattle.pc_model.proofs.Framing.{tree_node_same, IsKept, spells_kept, pairs_kept, slot_in, unmarked_in}
 use Rattle.pc_model.proofs.Framing.{Apart, apart_from_rising, IsRehung, spells_rehung, pairs_rehung}
+use Rattle.pc_model.proofs.TreeNodes.{root_is_in, zero_outside}
 use Rattle.pc_model.proofs.Holes.{IsOutside, Framed, Hole, hole_apart, hole_outside, refilled}
 use Rattle.pc_model.proofs.HolePairs.{without-hole}
 use Rattle.pc_model.proofs.Links.{IsLinkAlone, link_alone}
@@ -53,16 +54,6 @@ not_both_parities v even odd = absurd (omega (arith, even, odd))
 -- a node of a tree is none outside of it
 differs : (t : Tree) (m x : ℕ) → IsIn m t → (IsIn x t → ⊥) → m ≢ x
 differs t m x i out = λ e. out (subst (λ (y : ℕ). IsIn y t) e i)
-
--- a link that spells a tree names its root, or is 0
-root_is_in : (kind : Kind) (slots : ℕ) (c : Cells) (t : Tree) (above link : ℕ) → Spells kind slots c t above link → (link ≡ 0) ⊎ IsIn link t
-root_is_in kind slots c Empty above link spelled = inl spelled
-root_is_in kind slots c (Fork n l r) above link spelled = inr (inl spelled.0)
-
--- 0 is no node of a tree
-zero_outside : (kind : Kind) (slots : ℕ) (c : Cells) (t : Tree) (above link n : ℕ) → Spells kind slots c t above link → n ≡ 0 → IsIn n t → ⊥
-zero_outside kind slots c t above link n spelled zero i =
-    let slot : IsSlot slots n = slot_in kind slots c t above link n spelled i in absurd (omega arith)
 
 -- The first node of a tree
 
