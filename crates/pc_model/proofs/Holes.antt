@@ -1,6 +1,7 @@
 -- A walk from the root to a key, seen as a hole: the subtree at the link that the walk has come to, the
 -- pairs before and after it, and how the whole tree is spelled again where only that subtree changes.
-use Rattle.std.proofs.Common.{◌≡◌, ◌≢◌, ℕ, ◌%◌, ◌<◌, ◌⊎◌, inl, inr, ⊎_elim, [], ◌++◌, refl, sym, ap, ◌∙◌, subst, append_assoc, arith}
+use Rattle.std.proofs.Common.{◌≡◌, ◌≢◌, ℕ, ◌%◌, ◌<◌, ◌⊎◌, inl, inr, ⊎_elim, [], ◌++◌, refl, sym, ap, ◌∙◌, subst}
+use Rattle.std.proofs.Common.{append_assoc, arith}
 use Rattle.std.proofs.lemmas.List.{append-nil}
 use Rattle.std.proofs.lemmas.Bool.{cases_eq}
 use Rattle.pc_model.specs.declared.cell.Field.{Field}
@@ -10,9 +11,12 @@ use Rattle.pc_model.specs.Cells.{Cells, IsEven, IsOdd, IsSlot, IsNode}
 use Rattle.pc_model.specs.Trees.{Tree, Fork, Kind, Spells, IsIn, pair_of, pairs_of, IsSearchTree}
 use Rattle.pc_model.specs.Sides.{Side, left, right, link_of, opposite, fork_on, IsToward, pairs_before, pairs_behind}
 use Rattle.pc_model.proofs.SortedLists.{AreBelow-join, AreAbove-join, rising_front, rising_back}
-use Rattle.pc_model.proofs.Framing.{is_in_or_not, tree_node_same, IsKept, spells_kept, pairs_kept, slot_in, unmarked_in, Apart, apart_from_rising}
+use Rattle.pc_model.proofs.Framing.{is_in_or_not, tree_node_same, IsKept, spells_kept, pairs_kept, slot_in}
+use Rattle.pc_model.proofs.Framing.{unmarked_in, Apart, apart_from_rising}
 use Rattle.pc_model.proofs.Links.{IsLinkAlone, link_alone}
-use Rattle.pc_model.proofs.Sides.{link_of-is_link, opposite_differs, SpellsOn, spells_on, spells_from_side, in_root, in_near, in_far, in_which, pairs_on, pairs_before_same, pairs_behind_same, ApartOn, apart_on}
+use Rattle.pc_model.proofs.Sides.{link_of-is_link, opposite_differs, SpellsOn, spells_on, spells_from_side, in_root}
+use Rattle.pc_model.proofs.Sides.{in_near, in_far, in_which, pairs_on, pairs_before_same, pairs_behind_same, ApartOn}
+use Rattle.pc_model.proofs.Sides.{apart_on}
 
 -- the sentinel or a slot in use, outside of a subtree
 pub record IsOutside (slots : ℕ) (c : Cells) (sub : Tree) (n : ℕ) : Type 0 where
@@ -38,7 +42,8 @@ pub record Filled (kind : Kind) (slots : ℕ) (c' : Cells) (whole sub sub' : Tre
   pub no_parent : c' 1 Parent ≡ 0
 
 -- the subtree at one link of a node, on the way to a key
-pub record Hole (kind : Kind) (slots : ℕ) (c : Cells) (ps : Pairs) (whole : Tree) (k above : ℕ) (side : Field) (sub : Tree) : Type 0 where
+pub record Hole (kind : Kind) (slots : ℕ) (c : Cells) (ps : Pairs) (whole : Tree) (k above : ℕ) (side : Field)
+    (sub : Tree) : Type 0 where
   pub before : Pairs
   pub after : Pairs
   pub pairs : ps ≡ before ++ (pairs_of c sub ++ after)
@@ -49,12 +54,13 @@ pub record Hole (kind : Kind) (slots : ℕ) (c : Cells) (ps : Pairs) (whole : Tr
   pub node : IsNode slots above
   pub unmarked : IsEven (c above Version)
   pub apart : IsIn above sub → ⊥
-  pub fill : (c' : Cells) (sub' : Tree) → Framed slots c c' above side sub → Spells kind slots c' sub' above (c' above side)
-      → Filled kind slots c' whole sub sub' before after
+  pub fill : (c' : Cells) (sub' : Tree) → Framed slots c c' above side sub
+      → Spells kind slots c' sub' above (c' above side) → Filled kind slots c' whole sub sub' before after
 
 -- two lists around a list within two others
 regrouped : (b x m y a : Pairs) → b ++ ((x ++ (m ++ y)) ++ a) ≡ (b ++ x) ++ (m ++ (y ++ a))
-regrouped b x m y a = ap (λ (z : Pairs). b ++ z) (append_assoc x (m ++ y) a ∙ ap (λ (z : Pairs). x ++ z) (append_assoc m y a))
+regrouped b x m y a =
+    ap (λ (z : Pairs). b ++ z) (append_assoc x (m ++ y) a ∙ ap (λ (z : Pairs). x ++ z) (append_assoc m y a))
     ∙ sym (append_assoc b x (m ++ (y ++ a)))
 
 module _ (kind : Kind) (slots : ℕ) (c : Cells) (ps : Pairs) where
@@ -63,7 +69,11 @@ module _ (kind : Kind) (slots : ℕ) (c : Cells) (ps : Pairs) where
   root_hole s k =
       let apart : IsIn 1 s.tree → ⊥ = λ h.
       let two : IsSlot slots 1 = slot_in kind slots c s.tree 1 (c 1 Left) 1 s.spelled h in absurd (omega arith) in
-      let sentinel : IsOutside slots c s.tree 1 = record { node = (omega arith, omega arith); unmarked = s.unmarked; out = apart } in
+      let sentinel : IsOutside slots c s.tree 1 = record {
+        node = (omega arith, omega arith);
+        unmarked = s.unmarked;
+        out = apart;
+      } in
       record {
         before = [];
         after = [];
@@ -88,7 +98,8 @@ module _ (kind : Kind) (slots : ℕ) (c : Cells) (ps : Pairs) where
       }
 
   rising_sub : (before sub after : Pairs) → ps ≡ before ++ (sub ++ after) → IsRising ps → IsRising sub
-  rising_sub before sub after e rising = rising_front sub after (rising_back before (sub ++ after) (subst IsRising e rising))
+  rising_sub before sub after e rising = rising_front sub after
+      (rising_back before (sub ++ after) (subst IsRising e rising))
 
   -- the keys of the subtree at a hole rise
   pub hole_rising : (whole : Tree) (k above : ℕ) (side : Field) (sub : Tree) → IsRising ps
@@ -98,11 +109,12 @@ module _ (kind : Kind) (slots : ℕ) (c : Cells) (ps : Pairs) where
   -- a fork at the hole: its sides lie apart
   pub hole_apart : (whole : Tree) (k above : ℕ) (side : Field) (n : ℕ) (l r : Tree) → IsRising ps
       → Hole kind slots c ps whole k above side (Fork n l r) → Apart c n l r
-  hole_apart whole k above side n l r rising h = apart_from_rising c n l r (hole_rising whole k above side (Fork n l r) rising h)
+  hole_apart whole k above side n l r rising h =
+      apart_from_rising c n l r (hole_rising whole k above side (Fork n l r) rising h)
 
   -- the node above the subtree is outside of it
-  pub hole_outside : (whole : Tree) (k above : ℕ) (side : Field) (sub : Tree) → Hole kind slots c ps whole k above side sub
-      → IsOutside slots c sub above
+  pub hole_outside : (whole : Tree) (k above : ℕ) (side : Field) (sub : Tree)
+      → Hole kind slots c ps whole k above side sub → IsOutside slots c sub above
   hole_outside whole k above side sub h = record { node = h.node; unmarked = h.unmarked; out = h.apart }
 
   -- The walk goes on to the tree on one side of a node.
@@ -171,10 +183,12 @@ module _ (kind : Kind) (slots : ℕ) (c : Cells) (ps : Pairs) where
         fork_spelled =
             let alone : IsLinkAlone (link_of side) = link_alone (link_of side) (link_of-is_link side) in
             let far_link : Field = link_of (opposite side) in
-            let not_version : far_link ≢ Version = λ e. (link_alone far_link (link_of-is_link (opposite side))).version (sym e) in
+            let far_alone : IsLinkAlone far_link = link_alone far_link (link_of-is_link (opposite side)) in
+            let not_version : far_link ≢ Version = λ e. far_alone.version (sym e) in
             let link_same : c' n far_link ≡ c n far_link = own_same far_link not_version (opposite_differs side) in
             let link_above : c' above link ≡ c above link =
-            above_same above link (hole_outside whole k above link (fork_on side n near far) h) (λ e. (link_alone link h.link).version (sym e)) in
+            above_same above link (hole_outside whole k above link (fork_on side n near far) h)
+            (λ e. (link_alone link h.link).version (sym e)) in
             spells_from_side kind slots c' n sub far above (c' above link) side (record {
               linked = link_above ∙ there.linked;
               node = tree_node_same kind slots c c' above n (framed.unmarked n node_outside)
@@ -186,11 +200,14 @@ module _ (kind : Kind) (slots : ℕ) (c : Cells) (ps : Pairs) where
         fork_filled : Filled kind slots c' whole (fork_on side n near far) (fork_on side n sub far) h.before h.after
         fork_filled = h.fill c' (fork_on side n sub far) framed_above fork_spelled
 
-        fork_pairs : pairs_of c' (fork_on side n sub far) ≡ pairs_before side c n far ++ (pairs_of c' sub ++ pairs_behind side c n far)
+        fork_pairs : pairs_of c' (fork_on side n sub far)
+            ≡ pairs_before side c n far ++ (pairs_of c' sub ++ pairs_behind side c n far)
         fork_pairs =
             let far_same : pairs_of c' far ≡ pairs_of c far = pairs_kept c c' far far_kept in
-            let front : pairs_before side c' n far ≡ pairs_before side c n far = pairs_before_same side c c' n far pair_same far_same in
-            let back : pairs_behind side c' n far ≡ pairs_behind side c n far = pairs_behind_same side c c' n far pair_same far_same in
+            let front : pairs_before side c' n far ≡ pairs_before side c n far =
+            pairs_before_same side c c' n far pair_same far_same in
+            let back : pairs_behind side c' n far ≡ pairs_behind side c n far =
+            pairs_behind_same side c c' n far pair_same far_same in
             pairs_on side c' n sub far ∙ (λ i. front i ++ (pairs_of c' sub ++ back i))
 
         still_outside : (m : ℕ) → IsIn m whole → (IsIn m near → ⊥) → IsIn m fork_filled.tree
@@ -201,7 +218,8 @@ module _ (kind : Kind) (slots : ℕ) (c : Cells) (ps : Pairs) where
             (λ j. fork_filled.outside m i j)
             (is_in_or_not m (fork_on side n near far))
 
-        side_filled : Filled kind slots c' whole near sub (h.before ++ pairs_before side c n far) (pairs_behind side c n far ++ h.after)
+        side_filled : Filled kind slots c' whole near sub (h.before ++ pairs_before side c n far)
+            (pairs_behind side c n far ++ h.after)
         side_filled = record {
           tree = fork_filled.tree;
           spelled = fork_filled.spelled;
@@ -241,7 +259,8 @@ module _ (kind : Kind) (slots : ℕ) (c : Cells) (ps : Pairs) where
   right_hole whole k above side n l r rising lt h = side_hole whole k above side right n r l rising h lt
 
   even_or_odd : (n : ℕ) → IsEven n ⊎ (n % 2 ≡ 1)
-  even_or_odd n = let below : n % 2 < 2 = omega arith in ⊎_elim (λ e. inl e) (λ ne. inr (omega arith)) (cases_eq (n % 2) 0)
+  even_or_odd n = let below : n % 2 < 2 = omega arith in
+      ⊎_elim (λ e. inl e) (λ ne. inr (omega arith)) (cases_eq (n % 2) 0)
 
   -- The changed cells are a search tree again: the hole is filled with a tree that has every unmarked
   -- slot that was in the old subtree or out of use.
@@ -260,7 +279,8 @@ module _ (kind : Kind) (slots : ℕ) (c : Cells) (ps : Pairs) where
           rising = rising;
           small = small;
           covered = λ n slot even. ⊎_elim
-              (λ was. ⊎_elim (λ i. f.inside n (covers n slot even (inl i))) (λ no. f.outside n (s.covered n slot was) no) (is_in_or_not n sub))
+              (λ was. ⊎_elim (λ i. f.inside n (covers n slot even (inl i)))
+              (λ no. f.outside n (s.covered n slot was) no) (is_in_or_not n sub))
               (λ odd. f.inside n (covers n slot even (inr odd))) (even_or_odd (c n Version));
           unmarked = f.unmarked;
           no_right = f.no_right;
@@ -268,9 +288,10 @@ module _ (kind : Kind) (slots : ℕ) (c : Cells) (ps : Pairs) where
         }
 
     -- the pairs stay where the new tree has those of the old one, and its nodes, and no slot comes into use
-    pub refilled_same : Framed slots c c' above side sub → Spells kind slots c' sub' above (c' above side) → pairs_of c' sub' ≡ pairs_of c sub
-        → ((n : ℕ) → IsIn n sub → IsIn n sub') → ((n : ℕ) → IsSlot slots n → IsOdd (c n Version) → IsOdd (c' n Version))
-        → IsSearchTree kind slots c' ps
+    pub refilled_same : Framed slots c c' above side sub → Spells kind slots c' sub' above (c' above side)
+        → pairs_of c' sub' ≡ pairs_of c sub
+        → ((n : ℕ) → IsIn n sub → IsIn n sub')
+        → ((n : ℕ) → IsSlot slots n → IsOdd (c n Version) → IsOdd (c' n Version)) → IsSearchTree kind slots c' ps
     refilled_same framed spelled same into stays_out =
         refilled ps framed spelled (ap (λ (x : Pairs). h.before ++ (x ++ h.after)) same ∙ sym h.pairs) s.rising s.small
         (λ n slot even was. ⊎_elim (λ i. into n i)

@@ -33,13 +33,15 @@ pub record IsRevalued (c c' : Cells) (n v : ℕ) : Type 0 where
   pub words : (m : ℕ) (f : Field) → f ≢ Version → (m ≡ n → f ≢ Value) → c' m f ≡ c m f
   pub parity : (m : ℕ) → c' m Version % 2 ≡ c m Version % 2
 
-module _ (kind : Kind) (slots : ℕ) (c : Cells) (ps : Pairs) (s : IsSearchTree kind slots c ps) (k v above : ℕ) (side : Field)
+module _ (kind : Kind) (slots : ℕ) (c : Cells) (ps : Pairs) (s : IsSearchTree kind slots c ps) (k v above : ℕ)
+    (side : Field)
     (small_key : k ≤ 999999999999999999) (small_value : v ≤ 999999999999999999) where
   -- a leaf hangs at the empty hole
   module _ (leaf : ℕ) (c' : Cells) (h : Hole kind slots c ps s.tree k above side Empty) (is_slot : IsSlot slots leaf)
       (odd : IsOdd (c leaf Version)) (hung : IsHung kind c c' above side leaf k v) where
     not_leaf : (m : ℕ) → IsEven (c m Version) → m ≢ leaf
-    not_leaf m even e = let was : c leaf Version % 2 ≡ 0 = subst (λ (x : ℕ). IsEven (c x Version)) e even in absurd (omega arith)
+    not_leaf m even e = let was : c leaf Version % 2 ≡ 0 = subst (λ (x : ℕ). IsEven (c x Version)) e even in
+        absurd (omega arith)
 
     leaf_framed : Framed slots c c' above side Empty
     leaf_framed = record {
@@ -49,21 +51,27 @@ module _ (kind : Kind) (slots : ℕ) (c : Cells) (ps : Pairs) (s : IsSearchTree 
 
     leaf_covers : (m : ℕ) → IsEven (c' m Version) → c m Version % 2 ≡ 1 → m ≡ leaf
     leaf_covers m even was_odd = ⊎_elim (λ e. e)
-        (λ ne. let same : c' m Version % 2 ≡ c m Version % 2 = hung.parity m ne in absurd (omega arith)) (cases_eq m leaf)
+        (λ ne. let same : c' m Version % 2 ≡ c m Version % 2 = hung.parity m ne in absurd (omega arith))
+        (cases_eq m leaf)
 
     pub leaf_hung : IsSearchTree kind slots c' (put k v ps)
     leaf_hung =
         let t : Tree = Fork leaf Empty Empty in
-        let node : IsTreeNode kind slots c' above leaf = record { slot = is_slot; unmarked = hung.unmarked; of_kind = hung.of_kind } in
-        let spelled : Spells kind slots c' t above (c' above side) = (hung.linked, node, hung.no_left, hung.no_right) in
-        let pair : pairs_of c' t ≡ (k, v) ∷ [] = (let key = hung.key in let value = hung.value in λ i. (key i, value i) ∷ []) in
+        let node : IsTreeNode kind slots c' above leaf =
+        record { slot = is_slot; unmarked = hung.unmarked; of_kind = hung.of_kind } in
+        let spelled : Spells kind slots c' t above (c' above side) =
+        (hung.linked, node, hung.no_left, hung.no_right) in
+        let pair : pairs_of c' t ≡ (k, v) ∷ [] = (let key = hung.key in let value = hung.value in
+        λ i. (key i, value i) ∷ []) in
         refilled kind slots c ps s k above side Empty t h c' (put k v ps) leaf_framed spelled
-        (ap (λ (x : Pairs). h.before ++ (x ++ h.after)) pair ∙ sym (put-empty_hole kind slots c ps s.tree k above side v h))
+        (ap (λ (x : Pairs). h.before ++ (x ++ h.after)) pair
+        ∙ sym (put-empty_hole kind slots c ps s.tree k above side v h))
         (put_rises k v ps s.rising) (put_small k v ps small_key small_value s.small)
         (λ m is even old. ⊎_elim (λ i. absurd i) (λ was_odd. inl (leaf_covers m even was_odd)) old)
 
   -- the value of the node at the hole changes
-  module _ (n : ℕ) (l r : Tree) (c' : Cells) (h : Hole kind slots c ps s.tree k above side (Fork n l r)) (key : c n Key ≡ k)
+  module _ (n : ℕ) (l r : Tree) (c' : Cells) (h : Hole kind slots c ps s.tree k above side (Fork n l r))
+      (key : c n Key ≡ k)
       (changed : IsRevalued c c' n v) where
     value_apart : Apart c n l r
     value_apart = hole_apart kind slots c ps s.tree k above side n l r s.rising h
@@ -84,12 +92,16 @@ module _ (kind : Kind) (slots : ℕ) (c : Cells) (ps : Pairs) (s : IsSearchTree 
     pub value_changed : IsSearchTree kind slots c' (put k v ps)
     value_changed =
         let t : Tree = Fork n l r in
-        let same : (f : Field) → f ≢ Version → f ≢ Value → c' n f ≡ c n f = λ f not_version not_value. changed.words n f not_version (λ _. not_value) in
+        let same : (f : Field) → f ≢ Version → f ≢ Value → c' n f ≡ c n f =
+        λ f not_version not_value. changed.words n f not_version (λ _. not_value) in
         let kept_l : IsKept c c' l = value_kept l (c n Left) value_apart.not_left h.spelled.2 in
         let kept_r : IsKept c c' r = value_kept r (c n Right) value_apart.not_right h.spelled.3 in
-        let left : Spells kind slots c' l n (c n Left) = spells_kept kind slots c c' l n (c n Left) kept_l h.spelled.2 in
-        let right : Spells kind slots c' r n (c n Right) = spells_kept kind slots c c' r n (c n Right) kept_r h.spelled.3 in
-        let node : IsTreeNode kind slots c' above n = tree_node_same kind slots c c' above n (changed.parity n ∙ h.spelled.1.unmarked)
+        let left : Spells kind slots c' l n (c n Left) =
+        spells_kept kind slots c c' l n (c n Left) kept_l h.spelled.2 in
+        let right : Spells kind slots c' r n (c n Right) =
+        spells_kept kind slots c c' r n (c n Right) kept_r h.spelled.3 in
+        let node : IsTreeNode kind slots c' above n = tree_node_same kind slots c c' above n
+        (changed.parity n ∙ h.spelled.1.unmarked)
         (same Parent (λ e. cc) (λ e. cc)) (same Height (λ e. cc) (λ e. cc)) h.spelled.1 in
         let link : c' above side ≡ c above side = changed.words above side
         (λ e. (link_alone side h.link).version (sym e)) (λ e. absurd (h.apart (inl e))) in
@@ -103,9 +115,11 @@ module _ (kind : Kind) (slots : ℕ) (c : Cells) (ps : Pairs) (s : IsSearchTree 
         let pairs_r : pairs_of c' r ≡ pairs_of c r = pairs_kept c c' r kept_r in
         let own_key : c' n Key ≡ k = same Key (λ e. cc) (λ e. cc) ∙ key in
         let own_value : c' n Value ≡ v = changed.value in
-        let pairs : pairs_of c' t ≡ pairs_of c l ++ ((k, v) ∷ pairs_of c r) = (λ i. pairs_l i ++ ((own_key i, own_value i) ∷ pairs_r i)) in
+        let pairs : pairs_of c' t ≡ pairs_of c l ++ ((k, v) ∷ pairs_of c r) =
+        (λ i. pairs_l i ++ ((own_key i, own_value i) ∷ pairs_r i)) in
         refilled kind slots c ps s k above side t t h c' (put k v ps) value_framed spelled
-        (ap (λ (x : Pairs). h.before ++ (x ++ h.after)) pairs ∙ sym (put-hole kind slots c ps s.tree k above side v n l r s.rising h key))
+        (ap (λ (x : Pairs). h.before ++ (x ++ h.after)) pairs
+        ∙ sym (put-hole kind slots c ps s.tree k above side v n l r s.rising h key))
         (put_rises k v ps s.rising) (put_small k v ps small_key small_value s.small)
         (λ m is even old. ⊎_elim (λ i. i)
         (λ odd. let p : c' m Version % 2 ≡ c m Version % 2 = changed.parity m in absurd (omega arith)) old)

@@ -1,6 +1,7 @@
 -- A fork seen from one of its sides: what its links spell, which nodes it has, and how its pairs lie
 -- around those of the tree on that side.
-use Rattle.std.proofs.Common.{◌≡◌, ◌≢◌, ℕ, ◌⊎◌, inl, inr, ⊎_elim, [], ◌∷◌, ◌++◌, refl, sym, ap, ◌∙◌, append_assoc, arith}
+use Rattle.std.proofs.Common.{◌≡◌, ◌≢◌, ℕ, ◌⊎◌, inl, inr, ⊎_elim, [], ◌∷◌, ◌++◌, refl, sym, ap, ◌∙◌, append_assoc}
+use Rattle.std.proofs.Common.{arith}
 use Rattle.std.proofs.lemmas.List.{append-nil}
 use Rattle.pc_model.specs.declared.cell.Field.TheVariants.{Key, Left, Right}
 use Rattle.pc_model.specs.Map.{Pairs, IsRising, AreBelow, AreAbove}
@@ -21,18 +22,21 @@ opposite_differs right = λ e. cc
 
 -- What a fork spells
 
-pub record SpellsOn (kind : Kind) (slots : ℕ) (c : Cells) (side : Side) (n : ℕ) (near far : Tree) (above link : ℕ) : Type 0 where
+pub record SpellsOn (kind : Kind) (slots : ℕ) (c : Cells) (side : Side) (n : ℕ) (near far : Tree)
+    (above link : ℕ) : Type 0 where
   pub linked : link ≡ n
   pub node : IsTreeNode kind slots c above n
   pub near_spelled : Spells kind slots c near n (c n (link_of side))
   pub far_spelled : Spells kind slots c far n (c n (link_of (opposite side)))
 
 module _ (kind : Kind) (slots : ℕ) (c : Cells) (n : ℕ) (near far : Tree) (above link : ℕ) where
-  pub spells_on : (side : Side) → Spells kind slots c (fork_on side n near far) above link → SpellsOn kind slots c side n near far above link
+  pub spells_on : (side : Side) → Spells kind slots c (fork_on side n near far) above link
+      → SpellsOn kind slots c side n near far above link
   spells_on left s = record { linked = s.0; node = s.1; near_spelled = s.2; far_spelled = s.3 }
   spells_on right s = record { linked = s.0; node = s.1; near_spelled = s.3; far_spelled = s.2 }
 
-  pub spells_from_side : (side : Side) → SpellsOn kind slots c side n near far above link → Spells kind slots c (fork_on side n near far) above link
+  pub spells_from_side : (side : Side) → SpellsOn kind slots c side n near far above link
+      → Spells kind slots c (fork_on side n near far) above link
   spells_from_side left s = (s.linked, s.node, s.near_spelled, s.far_spelled)
   spells_from_side right s = (s.linked, s.node, s.far_spelled, s.near_spelled)
 
@@ -58,18 +62,21 @@ module _ (m n : ℕ) (near far : Tree) where
 -- Its pairs
 
 pub pairs_on : (side : Side) (c : Cells) (n : ℕ) (near far : Tree)
-    → pairs_of c (fork_on side n near far) ≡ pairs_before side c n far ++ (pairs_of c near ++ pairs_behind side c n far)
+    → pairs_of c (fork_on side n near far) ≡ pairs_before side c n far ++
+    (pairs_of c near ++ pairs_behind side c n far)
 pairs_on left c n near far = refl
 pairs_on right c n near far = sym (append_assoc (pairs_of c far) (pair_of c n ∷ []) (pairs_of c near ++ [])
     ∙ ap (λ (x : Pairs). pairs_of c far ++ (pair_of c n ∷ x)) (append-nil (pairs_of c near)))
 
 -- the same where the node and the tree on the other side keep their pairs
-pub pairs_before_same : (side : Side) (c c' : Cells) (n : ℕ) (far : Tree) → pair_of c' n ≡ pair_of c n → pairs_of c' far ≡ pairs_of c far
+pub pairs_before_same : (side : Side) (c c' : Cells) (n : ℕ) (far : Tree) → pair_of c' n ≡ pair_of c n
+    → pairs_of c' far ≡ pairs_of c far
     → pairs_before side c' n far ≡ pairs_before side c n far
 pairs_before_same left c c' n far here there = refl
 pairs_before_same right c c' n far here there = λ i. there i ++ (here i ∷ [])
 
-pub pairs_behind_same : (side : Side) (c c' : Cells) (n : ℕ) (far : Tree) → pair_of c' n ≡ pair_of c n → pairs_of c' far ≡ pairs_of c far
+pub pairs_behind_same : (side : Side) (c c' : Cells) (n : ℕ) (far : Tree) → pair_of c' n ≡ pair_of c n
+    → pairs_of c' far ≡ pairs_of c far
     → pairs_behind side c' n far ≡ pairs_behind side c n far
 pairs_behind_same left c c' n far here there = λ i. here i ∷ there i
 pairs_behind_same right c c' n far here there = refl
@@ -85,7 +92,8 @@ pub record ApartOn (c : Cells) (side : Side) (n : ℕ) (near far : Tree) : Type 
   pub before : (k : ℕ) → IsToward side k (c n Key) → AreBelow k (pairs_before side c n far)
   pub behind : (k : ℕ) → IsToward side k (c n Key) → AreAbove k (pairs_behind side c n far)
 
-pub apart_on : (side : Side) (c : Cells) (n : ℕ) (near far : Tree) → IsRising (pairs_of c (fork_on side n near far)) → ApartOn c side n near far
+pub apart_on : (side : Side) (c : Cells) (n : ℕ) (near far : Tree) → IsRising (pairs_of c (fork_on side n near far))
+    → ApartOn c side n near far
 apart_on left c n near far rising =
     let a : Apart c n near far = apart_from_rising c n near far rising in
     record {

@@ -14,7 +14,8 @@ module _ (kind : Kind) (slots : ℕ) (c c' : Cells) (same : SameButVersions slot
 
   kept_still : (t : Tree) (above link : ℕ) → Spells kind slots c t above link → IsKept c c' t
   kept_still t above link s = record {
-    words = λ n f i not_version. let slot : IsSlot slots n = slot_in kind slots c t above link n s i in same.fields n f slot.1 not_version;
+    words = λ n f i not_version. let slot : IsSlot slots n = slot_in kind slots c t above link n s i in
+        same.fields n f slot.1 not_version;
     unmarked = λ n i. let slot : IsSlot slots n = slot_in kind slots c t above link n s i in
         even_still n slot.1 (unmarked_in kind slots c t above link n s i);
   }
@@ -27,7 +28,8 @@ module _ (kind : Kind) (slots : ℕ) (c c' : Cells) (same : SameButVersions slot
   search_tree_parity ps s =
       let root : c' 1 Left ≡ c 1 Left = same.fields 1 Left (omega arith) (λ e. cc) in
       let kept : IsKept c c' s.tree = kept_still s.tree 1 (c 1 Left) s.spelled in
-      let spelled : Spells kind slots c' s.tree 1 (c 1 Left) = spells_kept kind slots c c' s.tree 1 (c 1 Left) kept s.spelled in
+      let spelled : Spells kind slots c' s.tree 1 (c 1 Left) =
+      spells_kept kind slots c c' s.tree 1 (c 1 Left) kept s.spelled in
       record {
         tree = s.tree;
         spelled = rw root spelled;
@@ -41,14 +43,18 @@ module _ (kind : Kind) (slots : ℕ) (c c' : Cells) (same : SameButVersions slot
       }
 
 -- where every slot is in use, there is a pair for each
-pub search_tree_full : (kind : Kind) (slots : ℕ) (c : Cells) (ps : Pairs) → IsSearchTree kind slots c ps → ((n : ℕ) → IsSlot slots n → IsEven (c n Version)) → length ps ≡ slots
+pub search_tree_full : (kind : Kind) (slots : ℕ) (c : Cells) (ps : Pairs) → IsSearchTree kind slots c ps
+    → ((n : ℕ) → IsSlot slots n → IsEven (c n Version)) → length ps ≡ slots
 search_tree_full kind slots c ps s all =
     let pairs : length (pairs_of c s.tree) ≡ length ps = ap length s.pairs in
     let size : length (pairs_of c s.tree) ≡ size_of s.tree = length-pairs_of c s.tree in
-    let few : size_of s.tree ≤ slots = size-le-slots kind slots c s.tree 1 (c 1 Left) s.spelled (subst IsRising (sym s.pairs) s.rising) in
+    let few : size_of s.tree ≤ slots = size-le-slots kind slots c s.tree 1 (c 1 Left) s.spelled
+    (subst IsRising (sym s.pairs) s.rising) in
     let many : slots ≤ size_of s.tree = slots-le-size slots s.tree (λ n slot. s.covered n slot (all n slot)) in
     omega arith
 
 -- a search tree has no more nodes than slots
-pub search_tree_size : (kind : Kind) (slots : ℕ) (c : Cells) (ps : Pairs) → (s : IsSearchTree kind slots c ps) → size_of s.tree ≤ slots
-search_tree_size kind slots c ps s = size-le-slots kind slots c s.tree 1 (c 1 Left) s.spelled (subst IsRising (sym s.pairs) s.rising)
+pub search_tree_size : (kind : Kind) (slots : ℕ) (c : Cells) (ps : Pairs) → (s : IsSearchTree kind slots c ps)
+    → size_of s.tree ≤ slots
+search_tree_size kind slots c ps s = size-le-slots kind slots c s.tree 1 (c 1 Left) s.spelled
+    (subst IsRising (sym s.pairs) s.rising)

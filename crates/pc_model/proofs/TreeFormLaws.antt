@@ -1,9 +1,10 @@
 -- The forms of search trees keep the laws of a form, and each key in debt is one of the tree's.
-use Rattle.std.proofs.Common.{◌≡◌, ℕ, ◌==◌, ◌⊎◌, inl, inr, ⊎_elim, ◌∷◌, if◌then◌else◌, refl, sym, ◌∙◌, subst}
+use Rattle.std.proofs.Common.{◌≡◌, ℕ, ◌==◌, ◌⊎◌, ⊎_elim, if◌then◌else◌, refl, sym, ◌∙◌, subst}
 use Rattle.pc_model.specs.declared.cell.Field.TheVariants.{Version, Key, Left, Right, Height}
 use Rattle.pc_model.specs.Map.{Pairs, HasKey}
 use Rattle.pc_model.specs.Cells.{Cells, IsEven, IsSlot, SameButVersions}
-use Rattle.pc_model.specs.Trees.{Tree, Empty, Fork, Kind, plain, balanced, IsTreeNode, Spells, IsIn, pair_of, pairs_of, IsSearchTree}
+use Rattle.pc_model.specs.Trees.{Kind, plain, balanced, pairs_of}
+use Rattle.pc_model.specs.Trees.{IsSearchTree}
 use Rattle.pc_model.specs.Forms.{IsSound}
 use Rattle.pc_model.specs.FormLaws.{FormLaws}
 use Rattle.pc_model.specs.TreeForms.{height_at, IsInBalanceOver, IsInBalance, in_debt_of, tree_form, ordered_form}
@@ -15,7 +16,8 @@ pub debt_has_key : (kind : Kind) (slots : ℕ) (c : Cells) (ps : Pairs) (k : ℕ
     → in_debt_of kind slots c k → HasKey k ps
 debt_has_key plain slots c ps k s debt = absurd debt
 debt_has_key balanced slots c ps k s debt =
-    let has : HasKey (c debt.node Key) (pairs_of c s.tree) = key_of_node c s.tree debt.node (s.covered debt.node debt.slot debt.unmarked) in
+    let has : HasKey (c debt.node Key) (pairs_of c s.tree) =
+    key_of_node c s.tree debt.node (s.covered debt.node debt.slot debt.unmarked) in
     subst (λ (x : ℕ). HasKey x ps) debt.key (subst (HasKey (c debt.node Key)) s.pairs has)
 
 -- Cells that are the same but for versions
@@ -51,7 +53,8 @@ module _ (slots : ℕ) (c c' : Cells) (same : SameButVersions slots c c') where
       (subst (λ (x : ℕ). IsInBalanceOver (height_at c (c n Left)) x (c' n Height)) (sym same_right)
       (subst (IsInBalanceOver (height_at c (c n Left)) (height_at c (c n Right))) (sym own) balance))
 
-  debt_same : (kind : Kind) (k : ℕ) → IsSound (tree_form kind) slots c → in_debt_of kind slots c' k → in_debt_of kind slots c k
+  debt_same : (kind : Kind) (k : ℕ) → IsSound (tree_form kind) slots c → in_debt_of kind slots c' k
+      → in_debt_of kind slots c k
   debt_same plain k sound debt = debt
   debt_same balanced k sound debt =
       let s : IsSearchTree balanced slots c sound.0 = sound.1 in

@@ -35,13 +35,19 @@ hang_leaf : Exchange
 hang_leaf = record {
   visits = record { node = 1; version = 0 } ∷ [];
   reads = record { node = 1; field = Left; number = 0 } ∷ [];
-  changes = record { node = 1; field = Version; old = 0; new = 2 } ∷ record { node = 1; field = Left; old = 0; new = 2 } ∷ [];
+  changes = record { node = 1; field = Version; old = 0; new = 2 }
+      ∷ record { node = 1; field = Left; old = 0; new = 2 } ∷ [];
   fresh = Some (record { node = 2; fields = leaf_fields });
 }
 
 stands_at_the_opening : Stands hang_leaf opening
 unfolding opening hang_leaf leaf_fields
-stands_at_the_opening = record { visits = ((refl, refl), tt); reads = (refl, tt); changes = (refl, (refl, tt)); fresh = (refl, refl) }
+stands_at_the_opening = record {
+  visits = ((refl, refl), tt);
+  reads = (refl, tt);
+  changes = (refl, (refl, tt));
+  fresh = (refl, refl);
+}
 
 with_leaf : Cells
 unfolding opening hang_leaf leaf_fields
@@ -77,7 +83,8 @@ empty_tree = record {
   pairs = refl;
   rising = tt;
   small = tt;
-  covered = λ n slot even. let two : n ≡ 2 = omega arith in let odd : ◌≡◌ {A = ℕ} 1 0 = subst (λ (x : ℕ). opening_fields x Version % 2 ≡ 0) two even in absurd (omega (arith, odd));
+  covered = λ n slot even. let two : n ≡ 2 = omega arith in let odd : ◌≡◌ {A = ℕ} 1 0 =
+      subst (λ (x : ℕ). opening_fields x Version % 2 ≡ 0) two even in absurd (omega (arith, odd));
   unmarked = refl;
   no_right = refl;
   no_parent = refl;
@@ -108,9 +115,12 @@ leaf_is_hung = record {
   no_right = refl;
   of_kind = (refl, refl);
   unmarked = refl;
-  words = λ m f not_leaf not_version not_link. applied-else hang_leaf opening_fields m f ((λ _. not_version), (not_link, tt)) not_leaf;
-  parity = λ m not_leaf. applied-parity hang_leaf opening_fields m
-      ((λ e _. let one : m ≡ 1 = e in subst (λ (x : ℕ). 2 % 2 ≡ opening_fields x Version % 2) (sym one) refl), ((λ _ e. cc), tt)) not_leaf;
+  words = λ m f not_leaf not_version not_link. applied-else hang_leaf opening_fields m f
+      ((λ _. not_version), (not_link, tt)) not_leaf;
+  parity = λ m not_leaf. applied-parity hang_leaf opening_fields m (
+    (λ e _. let one : m ≡ 1 = e in subst (λ (x : ℕ). 2 % 2 ≡ opening_fields x Version % 2) (sym one) refl),
+    ((λ _ e. cc), tt),
+  ) not_leaf;
 }
 
 leaf_tree_again : IsSearchTree plain 1 with_leaf (put 5 50 [])
@@ -119,7 +129,8 @@ leaf_tree_again = leaf_hung plain 1 opening [] empty_tree 5 50 1 Left (omega ari
     (root_hole plain 1 opening [] empty_tree 5) (omega arith, omega arith) refl leaf_is_hung
 
 two_entries : List Entry
-two_entries = record { pass = 1; number = 1; call = Put 5 50; reply = New; stamp = 1 } ∷ record { pass = 1; number = 2; call = Get 5; reply = Found 50; stamp = 2 } ∷ []
+two_entries = record { pass = 1; number = 1; call = Put 5 50; reply = New; stamp = 1 }
+    ∷ record { pass = 1; number = 2; call = Get 5; reply = Found 50; stamp = 2 } ∷ []
 
 is_right : IsRight two_entries
 unfolding two_entries

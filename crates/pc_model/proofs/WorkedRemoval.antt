@@ -1,6 +1,6 @@
 -- A removal on a balanced tree of two nodes, worked out: the upper node is unlinked, and its only child
 -- hangs below the sentinel afterwards.
-use Rattle.std.proofs.Common.{◌≡◌, ◌≢◌, ℕ, ◌%◌, inl, inr, ⊎_elim, [], ◌∷◌, None, refl, sym, subst, arith}
+use Rattle.std.proofs.Common.{◌≡◌, ℕ, ◌%◌, inl, inr, ⊎_elim, [], ◌∷◌, None, refl, sym, subst, arith}
 use Rattle.std.proofs.lemmas.Bool.{cases_eq}
 use Rattle.pc_model.specs.declared.cell.Field.{Field}
 use Rattle.pc_model.specs.declared.cell.Field.TheVariants.{Version, Key, Value, Left, Right, Parent, Height, Spare}
@@ -38,8 +38,12 @@ two_nodes = written 1 Left 2 (with_node 2 upper_fields (with_node 3 lower_fields
 two_node_tree : IsSearchTree balanced 2 two_nodes ((5, 50) ∷ (9, 90) ∷ [])
 two_node_tree = record {
   tree = Fork 2 Empty (Fork 3 Empty Empty);
-  spelled = (refl, record { slot = (omega arith, omega arith); unmarked = refl; of_kind = (refl, omega arith) }, refl,
-  (refl, record { slot = (omega arith, omega arith); unmarked = refl; of_kind = (refl, omega arith) }, refl, refl));
+  spelled = (
+    refl,
+    record { slot = (omega arith, omega arith); unmarked = refl; of_kind = (refl, omega arith) },
+    refl,
+    (refl, record { slot = (omega arith, omega arith); unmarked = refl; of_kind = (refl, omega arith) }, refl, refl),
+  );
   pairs = refl;
   rising = (omega arith, (omega arith, tt));
   small = (omega arith, omega arith, (omega arith, omega arith, tt));
@@ -54,7 +58,8 @@ abbrev unlink : Exchange
 unlink = record {
   visits = [];
   reads = [];
-  changes = record { node = 1; field = Version; old = 0; new = 2 } ∷ record { node = 1; field = Left; old = 2; new = 3 }
+  changes = record { node = 1; field = Version; old = 0; new = 2 }
+      ∷ record { node = 1; field = Left; old = 2; new = 3 }
       ∷ record { node = 3; field = Version; old = 4; new = 6 } ∷ record { node = 3; field = Parent; old = 2; new = 1 }
       ∷ record { node = 2; field = Version; old = 2; new = 3 } ∷ [];
   fresh = None;
@@ -70,15 +75,23 @@ is_unlinked = record {
   marked = refl;
   words = λ m f not_2 not_version not_link not_parent. applied-else unlink two_nodes m f
       ((λ _. not_version), (not_link, ((λ _. not_version), (not_parent, ((λ e. absurd (not_2 e)), tt))))) tt;
-  parity = λ m not_2. applied-parity unlink two_nodes m
-      ((λ e _. subst (λ (x : ℕ). 2 % 2 ≡ two_nodes x Version % 2) (sym e) refl), ((λ _ e. cc),
-      ((λ e _. subst (λ (x : ℕ). 6 % 2 ≡ two_nodes x Version % 2) (sym e) refl), ((λ _ e. cc), ((λ e _. absurd (not_2 e)), tt))))) tt;
+  parity = λ m not_2. applied-parity unlink two_nodes m (
+    (λ e _. subst (λ (x : ℕ). 2 % 2 ≡ two_nodes x Version % 2) (sym e) refl),
+    (
+      (λ _ e. cc),
+      (
+        (λ e _. subst (λ (x : ℕ). 6 % 2 ≡ two_nodes x Version % 2) (sym e) refl),
+        ((λ _ e. cc), ((λ e _. absurd (not_2 e)), tt)),
+      ),
+    ),
+  ) tt;
 }
 
 one_node_is_left : IsSearchTree balanced 2 (applied unlink two_nodes) ((9, 90) ∷ [])
 unfolding two_node_tree
-one_node_is_left = unlinked_right balanced 2 two_nodes ((5, 50) ∷ (9, 90) ∷ []) two_node_tree 5 1 Left 2 (Fork 3 Empty Empty)
-    (applied unlink two_nodes) (root_hole balanced 2 two_nodes ((5, 50) ∷ (9, 90) ∷ []) two_node_tree 5) refl is_unlinked
+one_node_is_left = unlinked_right balanced 2 two_nodes ((5, 50) ∷ (9, 90) ∷ []) two_node_tree 5 1 Left 2
+    (Fork 3 Empty Empty) (applied unlink two_nodes)
+    (root_hole balanced 2 two_nodes ((5, 50) ∷ (9, 90) ∷ []) two_node_tree 5) refl is_unlinked
 
 hangs_below_the_sentinel : applied unlink two_nodes 3 Parent ≡ 1
 hangs_below_the_sentinel = refl
