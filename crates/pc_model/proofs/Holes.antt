@@ -9,7 +9,9 @@ use Rattle.pc_model.specs.declared.cell.Field.TheVariants.{Version, Key, Value, 
 use Rattle.pc_model.specs.Map.{Pairs, IsRising, AreSmall, AreBelow, AreAbove}
 use Rattle.pc_model.specs.Cells.{Cells, IsEven, IsOdd, IsSlot, IsNode}
 use Rattle.pc_model.specs.Trees.{Tree, Fork, Kind, Spells, IsIn, pair_of, pairs_of, IsSearchTree}
-use Rattle.pc_model.specs.Sides.{Side, left, right, link_of, opposite, fork_on, IsToward, pairs_before, pairs_behind}
+use Rattle.pc_model.specs.declared.cell.Side.{Side}
+use Rattle.pc_model.specs.declared.cell.Side.TheVariants.{Left as left, Right as right}
+use Rattle.pc_model.specs.Sides.{link_of, opposite, fork_on, IsToward, pairs_before, pairs_behind}
 use Rattle.pc_model.proofs.SortedLists.{AreBelow-join, AreAbove-join, rising_front, rising_back}
 use Rattle.pc_model.proofs.Framing.{is_in_or_not, tree_node_same, IsKept, spells_kept, pairs_kept, slot_in}
 use Rattle.pc_model.proofs.Framing.{unmarked_in, Apart, apart_from_rising}

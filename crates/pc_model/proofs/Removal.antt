@@ -8,7 +8,9 @@ use Rattle.pc_model.specs.Map.{Pairs, IsRising, without}
 use Rattle.pc_model.specs.Cells.{Cells, IsEven, IsOdd, IsNode}
 use Rattle.pc_model.specs.Trees.{Tree, Empty, Fork, Kind, parent_for, IsTreeNode, Spells, IsIn}
 use Rattle.pc_model.specs.Trees.{pair_of, pairs_of, IsSearchTree}
-use Rattle.pc_model.specs.Sides.{Side, left, right, link_of, fork_on}
+use Rattle.pc_model.specs.declared.cell.Side.{Side}
+use Rattle.pc_model.specs.declared.cell.Side.TheVariants.{Left as left, Right as right}
+use Rattle.pc_model.specs.Sides.{link_of, fork_on}
 use Rattle.pc_model.proofs.SortedLists.{without_rises, without_small}
 use Rattle.pc_model.proofs.Framing.{tree_node_same, IsKept, spells_kept, pairs_kept, unmarked_in}
 use Rattle.pc_model.proofs.Framing.{Apart, apart_from_rising, IsRehung, spells_rehung, pairs_rehung}

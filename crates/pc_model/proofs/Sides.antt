@@ -7,7 +7,9 @@ use Rattle.pc_model.specs.declared.cell.Field.TheVariants.{Key, Left, Right}
 use Rattle.pc_model.specs.Map.{Pairs, IsRising, AreBelow, AreAbove}
 use Rattle.pc_model.specs.Cells.{Cells}
 use Rattle.pc_model.specs.Trees.{Tree, Kind, IsTreeNode, Spells, IsIn, pair_of, pairs_of}
-use Rattle.pc_model.specs.Sides.{Side, left, right, link_of, opposite, fork_on, IsToward, pairs_before, pairs_behind}
+use Rattle.pc_model.specs.declared.cell.Side.{Side}
+use Rattle.pc_model.specs.declared.cell.Side.TheVariants.{Left as left, Right as right}
+use Rattle.pc_model.specs.Sides.{link_of, opposite, fork_on, IsToward, pairs_before, pairs_behind}
 use Rattle.pc_model.proofs.SortedLists.{AreBelow-join, below_weaker, above_weaker}
 use Rattle.pc_model.proofs.Framing.{Apart, apart_from_rising}
 

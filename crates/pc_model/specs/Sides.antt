@@ -2,13 +2,11 @@
 use Rattle.std.specs.Prelude.{ℕ, ◌<◌, [], ◌∷◌, ◌++◌}
 use Rattle.pc_model.specs.declared.cell.Field.{Field}
 use Rattle.pc_model.specs.declared.cell.Field.TheVariants.{Left, Right}
+use Rattle.pc_model.specs.declared.cell.Side.{Side}
+use Rattle.pc_model.specs.declared.cell.Side.TheVariants.{Left as left, Right as right}
 use Rattle.pc_model.specs.Map.{Pairs}
 use Rattle.pc_model.specs.Cells.{Cells}
 use Rattle.pc_model.specs.Trees.{Tree, Fork, pair_of, pairs_of}
-
-pub data Side : Type 0 where
-  left : Side
-  right : Side
 
 -- the link on this side
 abbrev pub link_of : Side → Field

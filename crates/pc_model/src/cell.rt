@@ -1,4 +1,5 @@
-//! The fields of a node, and the counters of a board.
+//! The fields and the sides of a node, and the counters of a board.
+ghost use Rattle.std.specs.Prelude.{◌≡◌};
 
 /// A field of a node. The fields are numbered from 0 to 7 in this order.
 #[derive(Clone, Copy, Debug, PartialEq, Eq)]
@@ -19,6 +20,30 @@ pub enum Field {
     Height,
     /// Not used: 0.
     Spare,
+}
+
+/// One of the two sides of a node: of its links, and of its key.
+#[derive(Clone, Copy, Debug, PartialEq, Eq)]
+pub enum Side {
+    /// Where the smaller keys are.
+    Left,
+    /// Where the greater keys are.
+    Right,
+}
+
+impl Side {
+    ghost use Rattle.pc_model.specs.Sides.{link_of};
+
+    /// The link on this side.
+    #[inline]
+    pub fn link(self) -> Field
+        ensures { result ≡ link_of self }
+    {
+        match self {
+            Side::Left => Field::Left,
+            Side::Right => Field::Right,
+        }
+    }
 }
 
 /// A counter that ends at a last value.

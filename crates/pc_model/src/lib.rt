@@ -16,7 +16,7 @@ mod replay_tests;
 mod tests;
 
 pub use call::{Call, Entry, Memory, Reply};
-pub use cell::{Counter, Field};
+pub use cell::{Counter, Field, Side};
 pub use first_wrong::{Wrong, replay};
 pub use laws::{
     ceil_and_floor_are_nearest, history_of_one_client_is_its_calls, no_debt_is_forgotten,

@@ -8,9 +8,9 @@ use Rattle.pc_model.specs.Cells.{field_number}
 use Rattle.pc_plan.specs.declared.plan.Ask.{Ask}
 use Rattle.pc_plan.specs.declared.plan.Told.{Told}
 use Rattle.pc_plan.specs.Traces.{Event, visited, found, learned, after, learned_along, version_seen, number_seen}
-use Rattle.pc_plan.specs.declared.walk.Side.{Side}
-use Rattle.pc_plan.specs.declared.walk.Side.TheVariants.{Left, Right}
-use Rattle.pc_plan.specs.Walks.{link_of}
+use Rattle.pc_model.specs.declared.cell.Side.{Side}
+use Rattle.pc_model.specs.declared.cell.Side.TheVariants.{Left, Right}
+use Rattle.pc_model.specs.Sides.{link_of}
 use Rattle.pc_plan.specs.Lawful.{IsWord, AreWords, IsLink}
 
 -- what each step keeps holds at the end of each trace

@@ -19,8 +19,8 @@ use Rattle.pc_plan.specs.declared.plan.Ask.{Ask}
 use Rattle.pc_plan.specs.declared.plan.Ask.TheVariants.{Visit as AskVisit, Read as AskRead}
 use Rattle.pc_plan.specs.declared.plan.Told.{Told}
 use Rattle.pc_plan.specs.declared.plan.Told.TheVariants.{Begin, Version, Number}
-use Rattle.pc_plan.specs.declared.walk.Side.{Side}
-use Rattle.pc_plan.specs.declared.walk.Side.TheVariants.{Left, Right}
+use Rattle.pc_model.specs.declared.cell.Side.{Side}
+use Rattle.pc_model.specs.declared.cell.Side.TheVariants.{Left, Right}
 use Rattle.pc_plan.specs.declared.walk.Above.{Above}
 use Rattle.pc_plan.specs.declared.walk.Awaited.{Awaited}
 use Rattle.pc_plan.specs.declared.walk.Awaited.TheVariants.{Version as AVersion, Key as AKey, Choice, Link}
@@ -28,7 +28,8 @@ use Rattle.pc_plan.specs.declared.walk.Walk.{Walk}
 use Rattle.pc_plan.specs.declared.walk.Step.{Step}
 use Rattle.pc_plan.specs.declared.walk.Step.TheVariants.{Visit, Read, Here, Missing, Astray}
 use Rattle.pc_plan.specs.Traces.{Event, visited, found}
-use Rattle.pc_plan.specs.Walks.{link_of, side_toward, walk_of, at_version, reading_link, following, on_way, way, walk_step}
+use Rattle.pc_model.specs.Sides.{link_of}
+use Rattle.pc_plan.specs.Walks.{side_toward, walk_of, at_version, reading_link, following, on_way, way, walk_step}
 use Rattle.pc_plan.proofs.Courses.{Course, more_turns}
 use Rattle.pc_plan.proofs.Unseen.{IsUnseen, unseen_left, unseen_right, unseen_whole}
 

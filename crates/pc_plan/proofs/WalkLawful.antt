@@ -12,8 +12,8 @@ use Rattle.pc_plan.specs.declared.plan.Ask.{Ask}
 use Rattle.pc_plan.specs.declared.plan.Ask.TheVariants.{Visit as AskVisit, Read as AskRead, Change as AskChange, Answer as AskAnswer}
 use Rattle.pc_plan.specs.declared.plan.Told.{Told}
 use Rattle.pc_plan.specs.declared.plan.Told.TheVariants.{Begin, Version, Number}
-use Rattle.pc_plan.specs.declared.walk.Side.{Side}
-use Rattle.pc_plan.specs.declared.walk.Side.TheVariants.{Left}
+use Rattle.pc_model.specs.declared.cell.Side.{Side}
+use Rattle.pc_model.specs.declared.cell.Side.TheVariants.{Left}
 use Rattle.pc_plan.specs.declared.walk.Above.{Above}
 use Rattle.pc_plan.specs.declared.walk.Awaited.{Awaited}
 use Rattle.pc_plan.specs.declared.walk.Awaited.TheVariants.{Version as AVersion, Key as AKey, Link}
@@ -22,7 +22,8 @@ use Rattle.pc_plan.specs.declared.walk.Step.{Step}
 use Rattle.pc_plan.specs.declared.walk.Step.TheVariants.{Visit, Read, Here, Missing, Astray}
 use Rattle.pc_plan.specs.Traces.{Event, visited, found, learned, version_seen, number_seen, reads_since_visit}
 use Rattle.pc_plan.specs.Lawful.{WasToldOf, IsWord, IsLawfulAsk}
-use Rattle.pc_plan.specs.Walks.{link_of, at_version, reading_link, arriving, left_by, descending, following, on_way, way, step_at, walk_step}
+use Rattle.pc_model.specs.Sides.{link_of}
+use Rattle.pc_plan.specs.Walks.{at_version, reading_link, arriving, left_by, descending, following, on_way, way, step_at, walk_step}
 use Rattle.pc_plan.proofs.Learning.{version_seen-here, version_seen-else, number_seen-here, number_seen-visit, number_seen-else, is_some-seen, side_is_link}
 
 -- a node doesn't lead back: it is none of those that were met

@@ -2,7 +2,8 @@
 use Rattle.std.specs.Prelude.{◌≡◌, IsSome}
 use Rattle.pc_model.specs.declared.call.Reply.{Reply}
 use Rattle.pc_model.specs.declared.owed.Settle.TheVariants.{Nothing}
-use Rattle.pc_model.specs.Forms.{Form, FormLaws}
+use Rattle.pc_model.specs.Forms.{Form}
+use Rattle.pc_model.specs.FormLaws.{FormLaws}
 use Rattle.pc_plan.specs.declared.plan.Ask.{Ask}
 use Rattle.pc_plan.specs.declared.plan.Told.{Told}
 use Rattle.pc_plan.specs.Terms.{Terms}

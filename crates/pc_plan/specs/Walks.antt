@@ -1,23 +1,20 @@
 -- The walk from the sentinel to a key, as a machine.
 use Rattle.std.specs.Prelude.{ℕ, ◌==◌, nat_lt, if◌then◌else◌, [], ◌∷◌, Option, Some, None}
 use Rattle.pc_model.specs.declared.cell.Field.{Field}
-use Rattle.pc_model.specs.declared.cell.Field.TheVariants.{Key as KeyField, Left as LeftLink, Right as RightLink}
+use Rattle.pc_model.specs.declared.cell.Field.TheVariants.{Key as KeyField}
 use Rattle.pc_model.specs.Cells.{node_at}
+use Rattle.pc_model.specs.Sides.{link_of}
 use Rattle.pc_model.specs.Debts.{has}
 use Rattle.pc_plan.specs.declared.plan.Told.{Told}
 use Rattle.pc_plan.specs.declared.plan.Told.TheVariants.{Begin, Version, Number}
-use Rattle.pc_plan.specs.declared.walk.Side.{Side}
-use Rattle.pc_plan.specs.declared.walk.Side.TheVariants.{Left, Right}
+use Rattle.pc_model.specs.declared.cell.Side.{Side}
+use Rattle.pc_model.specs.declared.cell.Side.TheVariants.{Left, Right}
 use Rattle.pc_plan.specs.declared.walk.Above.{Above}
 use Rattle.pc_plan.specs.declared.walk.Awaited.{Awaited}
 use Rattle.pc_plan.specs.declared.walk.Awaited.TheVariants.{Begin as ToBegin, Version as AVersion, Key as AKey, Choice, Link}
 use Rattle.pc_plan.specs.declared.walk.Walk.{Walk}
 use Rattle.pc_plan.specs.declared.walk.Step.{Step}
 use Rattle.pc_plan.specs.declared.walk.Step.TheVariants.{Visit, Read, Here, Missing, Astray}
-
-abbrev pub link_of : Side → Field
-link_of Left = LeftLink
-link_of Right = RightLink
 
 -- the side of a node with a key on which another key lies
 abbrev pub side_toward : ℕ → ℕ → Side

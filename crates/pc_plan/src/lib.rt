@@ -13,4 +13,4 @@ mod walk;
 pub use change::{Add, Change, Fresh, To};
 pub use laws::{exchanges_fit, standing_is_agreeing};
 pub use plan::{Ask, Plan, Told, Turn};
-pub use walk::{Above, Awaited, SENTINEL, Side, Step, Walk, leads_back, node_of};
+pub use walk::{Above, Awaited, SENTINEL, Step, Walk, leads_back, node_of};

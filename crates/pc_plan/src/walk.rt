@@ -4,46 +4,24 @@
 ghost use Rattle.std.specs.Prelude.{◌≡◌};
 ghost use Rattle.pc_model.specs.Cells.{node_at};
 ghost use Rattle.pc_model.specs.Debts.{has};
-ghost use Rattle.pc_plan.specs.Walks.{link_of, side_toward, walk_of, walk_step, visiting, reading_link, arriving, meeting, following, on_way, way};
+ghost use Rattle.pc_plan.specs.Walks.{side_toward, walk_of, walk_step, visiting, reading_link, arriving, meeting, following, on_way, way};
 ghost use Rattle.pc_plan.specs.declared.plan.Turn.TheVariants.{Read as ToRead};
 
 use crate::plan::{Told, Turn};
-use pc_model::Field;
+use pc_model::{Field, Side};
 
 /// The number of the sentinel. The root is its left child.
 pub const SENTINEL: u32 = 1;
 
-/// One of the two sides of a node.
-#[derive(Clone, Copy, Debug, PartialEq, Eq)]
-pub enum Side {
-    /// Where the smaller keys are.
-    Left,
-    /// Where the greater keys are.
-    Right,
-}
-
-impl Side {
-    /// The link on this side.
-    #[inline]
-    pub fn link(self) -> Field
-        ensures { result ≡ link_of self }
-    {
-        match self {
-            Side::Left => Field::Left,
-            Side::Right => Field::Right,
-        }
-    }
-
-    /// The side of a node with a key on which another key lies.
-    #[inline]
-    pub fn toward(key: u64, of_node: u64) -> Side
-        ensures { result ≡ side_toward key of_node }
-    {
-        if key < of_node {
-            Side::Left
-        } else {
-            Side::Right
-        }
+/// The side of a node with a key on which another key lies.
+#[inline]
+fn side_toward(key: u64, of_node: u64) -> Side
+    ensures { result ≡ side_toward key of_node }
+{
+    if key < of_node {
+        Side::Left
+    } else {
+        Side::Right
     }
 }
 
@@ -162,7 +140,7 @@ impl Walk {
         ensures walk { self.new ≡ on_way self.old key }
         ensures turn { result ≡ ToRead self.old.node (way self.old key) }
     {
-        let side = Side::toward(self.key, key);
+        let side = side_toward(self.key, key);
         self.awaited = Awaited::Link(side);
         Turn::Read(self.node, side.link())
     }
