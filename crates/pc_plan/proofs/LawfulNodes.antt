@@ -19,7 +19,8 @@ use Rattle.pc_plan.specs.Runs.{fresh_fields, fresh_at, exchange_of}
 use Rattle.pc_plan.specs.Lawful.{rise_of, FitsWord, AreFitting, IsToldFresh, IsToldWord, AreToldWords, Adds, AreOnce, AddsVersions, NamesFresh, MarksAlone, IsLawfulChange}
 use Rattle.pc_plan.proofs.Learning.{is_some-seen}
 use Rattle.pc_plan.proofs.WrittenWords.{with_words, words_else, adds_append, adds_behind}
-use Rattle.pc_plan.proofs.NodeWords.{FieldChange, NodeChange, adds_at, adds_of, nodes_of, mark_of, ByNodes, planned_by, numbers_of, AreFields, among_not, true_and_false, adds_at-in, not_added, fields_not_version, looked_up, field_after, IsAmong, HaveFields, words_of_node, words_of_mark, has_mark, mark_fields-in}
+use Rattle.pc_plan.specs.NodeChanges.{FieldChange, NodeChange, adds_at, adds_of, mark_of, ByNodes, planned_by}
+use Rattle.pc_plan.proofs.NodeWords.{nodes_in, numbers_of, AreFields, among_not, true_and_false, adds_at-in, not_added, fields_not_version, looked_up, field_after, IsAmong, HaveFields, words_of_node, words_of_mark, has_mark, mark_fields-in}
 
 -- these fields of a node were told, and what they get fits
 abbrev pub AreToldFields : List Event → Option Fresh → ℕ → List FieldChange → Type 0
@@ -48,7 +49,7 @@ pub record IsLawfulByNodes (past : List Event) (b : ByNodes) : Type 0 where
   pub few : length (adds_of b.nodes b.mark) ≤ 24
   pub nodes : AreToldNodes past b.fresh b.nodes
   pub mark : IsToldMark past b.mark
-  pub different : AreDifferent (nodes_of b.nodes b.mark)
+  pub different : AreDifferent (nodes_in b.nodes b.mark)
   pub fresh : IfSome b.fresh (IsToldFresh past)
   pub few_charges : length b.charged ≤ 4
 
@@ -124,12 +125,12 @@ fields_versions all n (x ∷ xs) there = (there, fields_versions all n xs there)
 
 -- The words of all nodes
 
-not_marked : (ws : List NodeChange) (mark : Option Visited) (n : ℕ) → has n (nodes_of ws mark) ≡ false → is_node (mark_of mark) n ≡ false
+not_marked : (ws : List NodeChange) (mark : Option Visited) (n : ℕ) → has n (nodes_in ws mark) ≡ false → is_node (mark_of mark) n ≡ false
 not_marked ws None n out = refl
-not_marked ws (Some v) n out = ne_eqb v.node n (λ e. true_and_false n (nodes_of ws (Some v)) (subst (λ (x : ℕ). has x (nodes_of ws (Some v)) ≡ true) e (has_mark ws v)) out)
+not_marked ws (Some v) n out = ne_eqb v.node n (λ e. true_and_false n (nodes_in ws (Some v)) (subst (λ (x : ℕ). has x (nodes_in ws (Some v)) ≡ true) e (has_mark ws v)) out)
 
 module _ (past : List Event) (fresh : Option Fresh) where
-  nodes_told : (ws : List NodeChange) (mark : Option Visited) → AreToldNodes past fresh ws → IsToldMark past mark → AreDifferent (nodes_of ws mark)
+  nodes_told : (ws : List NodeChange) (mark : Option Visited) → AreToldNodes past fresh ws → IsToldMark past mark → AreDifferent (nodes_in ws mark)
       → AreToldWords past (mark_of mark) (adds_of ws mark)
   nodes_told [] None told marked different = tt
   nodes_told [] (Some v) told marked different = (removed_told past fresh (Some v.node) v.node v.version marked.0 marked.1 refl, tt)
@@ -156,7 +157,7 @@ module _ (past : List Event) (fresh : Option Fresh) where
     names_append fresh (adds_at w.node w.fields) (adds_of ws mark) (fields_named past fresh w.node w.fields told.0.told) (nodes_named ws mark told.1),
   )
 
-nodes_once : (ws : List NodeChange) (mark : Option Visited) → HaveFields ws → AreDifferent (nodes_of ws mark) → AreOnce (adds_of ws mark)
+nodes_once : (ws : List NodeChange) (mark : Option Visited) → HaveFields ws → AreDifferent (nodes_in ws mark) → AreOnce (adds_of ws mark)
 nodes_once [] None fields different = tt
 nodes_once [] (Some v) fields different = (λ d. d, tt)
 nodes_once (w ∷ ws) mark fields different = (
@@ -164,7 +165,7 @@ nodes_once (w ∷ ws) mark fields different = (
       (λ a. true_and_false 0 (numbers_of w.fields) (adds_at-in w.node w.fields w.node Version a).1 (fields_not_version w.fields fields.0))
       (λ b. not_added ws mark w.node Version different.0 b) (adds_append w.node Version (adds_at w.node w.fields) (adds_of ws mark) d),
   once_append (adds_at w.node w.fields) (adds_of ws mark) (fields_once w.node w.fields fields.0) (nodes_once ws mark fields.1 different.1)
-      (λ m f a b. not_added ws mark m f (subst (λ (x : ℕ). has x (nodes_of ws mark) ≡ false) (sym (adds_at-in w.node w.fields m f a).0) different.0) b),
+      (λ m f a b. not_added ws mark m f (subst (λ (x : ℕ). has x (nodes_in ws mark) ≡ false) (sym (adds_at-in w.node w.fields m f a).0) different.0) b),
 )
 
 mark_version : (ws : List NodeChange) (v : Visited) → Adds v.node Version (adds_of ws (Some v))
@@ -183,7 +184,7 @@ nodes_versions all (w ∷ ws) mark there =
           (nodes_versions all ws mark (λ m d. there m (inr (adds_behind m Version (adds_at w.node w.fields) (adds_of ws mark) d)))),
     )
 
-marks_alone : (ws : List NodeChange) (mark : Option Visited) → AreDifferent (nodes_of ws mark) → MarksAlone (mark_of mark) (adds_of ws mark)
+marks_alone : (ws : List NodeChange) (mark : Option Visited) → AreDifferent (nodes_in ws mark) → MarksAlone (mark_of mark) (adds_of ws mark)
 marks_alone ws None different = tt
 marks_alone ws (Some v) different = (mark_version ws v, λ f d. mark_fields-in ws v f different d)
 
@@ -207,7 +208,7 @@ fresh_other : (fresh : Option Fresh) (slot version : ℕ) (c : Cells) (m : ℕ) 
 fresh_other None slot version c m f other = refl
 fresh_other (Some x) slot version c m f other = with_node-other slot (fresh_fields version x) c m f (other refl)
 
-module _ (past : List Event) (b : ByNodes) (slot version : ℕ) (c : Cells) (different : AreDifferent (nodes_of b.nodes b.mark)) (fields : HaveFields b.nodes) where
+module _ (past : List Event) (b : ByNodes) (slot version : ℕ) (c : Cells) (different : AreDifferent (nodes_in b.nodes b.mark)) (fields : HaveFields b.nodes) where
   abbrev left : Cells
   left = applied (exchange_of past (planned_by b) slot version) c
 
@@ -217,25 +218,25 @@ module _ (past : List Event) (b : ByNodes) (slot version : ℕ) (c : Cells) (dif
       ∙ ap (λ (y : ℕ). looked_up slot f w.fields (if field_number f == 0 then (w.version + 2) % 2 ^ 64 else y)) (fresh_other b.fresh slot version c w.node f other)
 
   -- a node with no word is as before
-  pub applied_else : (m : ℕ) (f : Field) → has m (nodes_of b.nodes b.mark) ≡ false → (IsSome b.fresh → m ≢ slot) → left m f ≡ c m f
+  pub applied_else : (m : ℕ) (f : Field) → has m (nodes_in b.nodes b.mark) ≡ false → (IsSome b.fresh → m ≢ slot) → left m f ≡ c m f
   applied_else m f out other =
       words_else slot (adds_of b.nodes b.mark) (with_fresh (fresh_at slot version b.fresh) c) m f (not_added b.nodes b.mark m f out)
       ∙ fresh_other b.fresh slot version c m f other
 
-  pub applied_fresh : (x : Fresh) (f : Field) → b.fresh ≡ Some x → has slot (nodes_of b.nodes b.mark) ≡ false → left slot f ≡ fresh_fields version x f
+  pub applied_fresh : (x : Fresh) (f : Field) → b.fresh ≡ Some x → has slot (nodes_in b.nodes b.mark) ≡ false → left slot f ≡ fresh_fields version x f
   applied_fresh x f is out =
       words_else slot (adds_of b.nodes b.mark) (with_fresh (fresh_at slot version b.fresh) c) slot f (not_added b.nodes b.mark slot f out)
       ∙ ap (λ (y : Option Fresh). with_fresh (fresh_at slot version y) c slot f) is ∙ with_node-here slot (fresh_fields version x) c f
 
 -- the marked node has its next version, and its other fields are as before
 pub applied_mark : (past : List Event) (ws : List NodeChange) (v : Visited) (fresh : Option Fresh) (b : ByNodes) (slot version : ℕ) (c : Cells) → b.nodes ≡ ws → b.mark ≡ Some v
-    → AreDifferent (nodes_of ws (Some v)) → applied (exchange_of past (planned_by b) slot version) c v.node Version ≡ (v.version + 1) % 2 ^ 64
+    → AreDifferent (nodes_in ws (Some v)) → applied (exchange_of past (planned_by b) slot version) c v.node Version ≡ (v.version + 1) % 2 ^ 64
 applied_mark past ws v fresh b slot version c nodes mark different =
     (λ i. with_words slot (adds_of (nodes i) (mark i)) (with_fresh (fresh_at slot version b.fresh) c) v.node Version)
     ∙ words_of_mark slot ws v (with_fresh (fresh_at slot version b.fresh) c) different
 
 pub applied_mark_else : (past : List Event) (ws : List NodeChange) (v : Visited) (b : ByNodes) (slot version : ℕ) (c : Cells) (f : Field) → b.nodes ≡ ws → b.mark ≡ Some v
-    → AreDifferent (nodes_of ws (Some v)) → f ≢ Version → (IsSome b.fresh → v.node ≢ slot) → applied (exchange_of past (planned_by b) slot version) c v.node f ≡ c v.node f
+    → AreDifferent (nodes_in ws (Some v)) → f ≢ Version → (IsSome b.fresh → v.node ≢ slot) → applied (exchange_of past (planned_by b) slot version) c v.node f ≡ c v.node f
 applied_mark_else past ws v b slot version c f nodes mark different ne other =
     (λ i. with_words slot (adds_of (nodes i) (mark i)) (with_fresh (fresh_at slot version b.fresh) c) v.node f)
     ∙ words_else slot (adds_of ws (Some v)) (with_fresh (fresh_at slot version b.fresh) c) v.node f (λ d. ne (mark_fields-in ws v f different d))

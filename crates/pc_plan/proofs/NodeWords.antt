@@ -14,63 +14,20 @@ use Rattle.pc_model.proofs.Writes.{written-here, written-else, written-other_nod
 use Rattle.pc_plan.specs.declared.change.To.{To}
 use Rattle.pc_plan.specs.declared.change.Add.{Add}
 use Rattle.pc_plan.specs.declared.change.Fresh.{Fresh}
+use Rattle.pc_plan.specs.NodeChanges.{FieldChange, NodeChange, adds_at, marked_adds, adds_of}
 use Rattle.pc_plan.specs.Planned.{Planned, raised, removed, rewritten}
 use Rattle.pc_plan.specs.Runs.{number_at}
 use Rattle.pc_plan.specs.Lawful.{Adds}
 use Rattle.pc_plan.proofs.WrittenWords.{with_words, words_else, words_append, adds_append}
 
--- a field that goes from a number to what it gets
-pub record FieldChange : Type 0 where
-  pub field : Field
-  pub old : ℕ
-  pub new : To
-
--- a node whose version is raised, and its fields that change
-pub record NodeChange : Type 0 where
-  pub node : ℕ
-  pub version : ℕ
-  pub fields : List FieldChange
-
-abbrev pub adds_at : ℕ → List FieldChange → List Add
-adds_at n [] = []
-adds_at n (x ∷ xs) = rewritten n x.field x.old x.new ∷ adds_at n xs
-
-abbrev pub marked_adds : Option Visited → List Add
-marked_adds None = []
-marked_adds (Some v) = removed v.node v.version ∷ []
-
--- the words of some nodes, then that of the marked one
-abbrev pub adds_of : List NodeChange → Option Visited → List Add
-adds_of [] mark = marked_adds mark
-adds_of (w ∷ ws) mark = raised w.node w.version ∷ (adds_at w.node w.fields ++ adds_of ws mark)
-
+-- the nodes of the words
 abbrev pub marked_nodes : Option Visited → List ℕ
 marked_nodes None = []
 marked_nodes (Some v) = v.node ∷ []
 
-abbrev pub nodes_of : List NodeChange → Option Visited → List ℕ
-nodes_of [] mark = marked_nodes mark
-nodes_of (w ∷ ws) mark = w.node ∷ nodes_of ws mark
-
-abbrev pub mark_of : Option Visited → Option ℕ
-mark_of None = None
-mark_of (Some v) = Some v.node
-
-pub record ByNodes : Type 0 where
-  pub nodes : List NodeChange
-  pub mark : Option Visited
-  pub fresh : Option Fresh
-  pub charged : List ℕ
-  pub reply : Reply
-
-abbrev pub planned_by : ByNodes → Planned
-planned_by b = record {
-  adds = adds_of b.nodes b.mark;
-  charged = b.charged;
-  fresh = b.fresh;
-  mark = mark_of b.mark;
-  reply = b.reply;
-}
+abbrev pub nodes_in : List NodeChange → Option Visited → List ℕ
+nodes_in [] mark = marked_nodes mark
+nodes_in (w ∷ ws) mark = w.node ∷ nodes_in ws mark
 
 -- the numbers of the fields that change
 abbrev pub numbers_of : List FieldChange → List ℕ
@@ -112,18 +69,18 @@ pub marked_adds-in : (mark : Option Visited) (m : ℕ) (f : Field) → Adds m f 
 marked_adds-in None m f h = absurd h
 marked_adds-in (Some v) m f h = ⊎_elim (λ e. (subst (λ (x : ℕ). has x (v.node ∷ []) ≡ true) e.0 (has_here v.node []), sym e.1)) (λ no_more. absurd no_more) h
 
-adds_of-in : (ws : List NodeChange) (mark : Option Visited) (m : ℕ) (f : Field) → Adds m f (adds_of ws mark) → has m (nodes_of ws mark) ≡ true
+adds_of-in : (ws : List NodeChange) (mark : Option Visited) (m : ℕ) (f : Field) → Adds m f (adds_of ws mark) → has m (nodes_in ws mark) ≡ true
 adds_of-in [] mark m f h = (marked_adds-in mark m f h).0
 adds_of-in (w ∷ ws) mark m f h = ⊎_elim
-    (λ e. subst (λ (x : ℕ). has x (w.node ∷ nodes_of ws mark) ≡ true) e.0 (has_here w.node (nodes_of ws mark)))
+    (λ e. subst (λ (x : ℕ). has x (w.node ∷ nodes_in ws mark) ≡ true) e.0 (has_here w.node (nodes_in ws mark)))
     (λ k. ⊎_elim
-    (λ a. subst (λ (x : ℕ). has x (w.node ∷ nodes_of ws mark) ≡ true) (sym (adds_at-in w.node w.fields m f a).0) (has_here w.node (nodes_of ws mark)))
-    (λ b. has_later m w.node (nodes_of ws mark) (adds_of-in ws mark m f b))
+    (λ a. subst (λ (x : ℕ). has x (w.node ∷ nodes_in ws mark) ≡ true) (sym (adds_at-in w.node w.fields m f a).0) (has_here w.node (nodes_in ws mark)))
+    (λ b. has_later m w.node (nodes_in ws mark) (adds_of-in ws mark m f b))
     (adds_append m f (adds_at w.node w.fields) (adds_of ws mark) k)) h
 
 -- a node that isn't among the others has no word among theirs
-pub not_added : (ws : List NodeChange) (mark : Option Visited) (m : ℕ) (f : Field) → has m (nodes_of ws mark) ≡ false → Adds m f (adds_of ws mark) → ⊥
-not_added ws mark m f out h = true_and_false m (nodes_of ws mark) (adds_of-in ws mark m f h) out
+pub not_added : (ws : List NodeChange) (mark : Option Visited) (m : ℕ) (f : Field) → has m (nodes_in ws mark) ≡ false → Adds m f (adds_of ws mark) → ⊥
+not_added ws mark m f out h = true_and_false m (nodes_in ws mark) (adds_of-in ws mark m f h) out
 
 pub fields_not_version : (xs : List FieldChange) → AreFields xs → has 0 (numbers_of xs) ≡ false
 fields_not_version [] apart = refl
@@ -173,13 +130,13 @@ abbrev pub HaveFields : List NodeChange → Type 0
 HaveFields [] = Unit {0}
 HaveFields (w ∷ ws) = AreFields w.fields × HaveFields ws
 
-among-has : (w : NodeChange) (ws : List NodeChange) (mark : Option Visited) → IsAmong w ws → has w.node (nodes_of ws mark) ≡ true
+among-has : (w : NodeChange) (ws : List NodeChange) (mark : Option Visited) → IsAmong w ws → has w.node (nodes_in ws mark) ≡ true
 among-has w [] mark i = absurd i
 among-has w (x ∷ xs) mark i = ⊎_elim
-    (λ e. subst (λ (y : NodeChange). has y.node (x.node ∷ nodes_of xs mark) ≡ true) (sym e) (has_here x.node (nodes_of xs mark)))
-    (λ j. has_later w.node x.node (nodes_of xs mark) (among-has w xs mark j)) i
+    (λ e. subst (λ (y : NodeChange). has y.node (x.node ∷ nodes_in xs mark) ≡ true) (sym e) (has_here x.node (nodes_in xs mark)))
+    (λ j. has_later w.node x.node (nodes_in xs mark) (among-has w xs mark j)) i
 
-head_written : (slot : ℕ) (w : NodeChange) (ws : List NodeChange) (mark : Option Visited) (c : Cells) (f : Field) → has w.node (nodes_of ws mark) ≡ false → AreFields w.fields
+head_written : (slot : ℕ) (w : NodeChange) (ws : List NodeChange) (mark : Option Visited) (c : Cells) (f : Field) → has w.node (nodes_in ws mark) ≡ false → AreFields w.fields
     → with_words slot (adds_of (w ∷ ws) mark) c w.node f ≡ field_after slot w c f
 head_written slot w ws mark c f out fields =
     let v : ℕ = (w.version + 2) % 2 ^ 64 in
@@ -202,33 +159,33 @@ head_other slot w ws mark c m ne f =
     words_else slot (adds_at w.node w.fields) (written w.node Version ((w.version + 2) % 2 ^ 64) c) m f (λ h. ne (adds_at-in w.node w.fields m f h).0)
     ∙ written-other_node w.node Version ((w.version + 2) % 2 ^ 64) c m f ne
 
-pub words_of_node : (slot : ℕ) (ws : List NodeChange) (mark : Option Visited) (c : Cells) (w : NodeChange) (f : Field) → AreDifferent (nodes_of ws mark) → HaveFields ws → IsAmong w ws
+pub words_of_node : (slot : ℕ) (ws : List NodeChange) (mark : Option Visited) (c : Cells) (w : NodeChange) (f : Field) → AreDifferent (nodes_in ws mark) → HaveFields ws → IsAmong w ws
     → with_words slot (adds_of ws mark) c w.node f ≡ field_after slot w c f
 words_of_node slot [] mark c w f different fields i = absurd i
 words_of_node slot (x ∷ xs) mark c w f different fields i = ⊎_elim
     (λ e. subst (λ (y : NodeChange). with_words slot (adds_of (x ∷ xs) mark) c y.node f ≡ field_after slot y c f) (sym e) (head_written slot x xs mark c f different.0 fields.0))
     (λ j. let d : Cells = with_words slot (adds_at x.node x.fields) (written x.node Version ((x.version + 2) % 2 ^ 64) c) in
-    let ne : w.node ≢ x.node = λ e. true_and_false x.node (nodes_of xs mark) (subst (λ (y : ℕ). has y (nodes_of xs mark) ≡ true) e (among-has w xs mark j)) different.0 in
+    let ne : w.node ≢ x.node = λ e. true_and_false x.node (nodes_in xs mark) (subst (λ (y : ℕ). has y (nodes_in xs mark) ≡ true) e (among-has w xs mark j)) different.0 in
     (λ k. words_append slot (adds_at x.node x.fields) (adds_of xs mark) (written x.node Version ((x.version + 2) % 2 ^ 64) c) k w.node f)
     ∙ words_of_node slot xs mark d w f different.1 fields.1 j
     ∙ ap (λ (y : ℕ). looked_up slot f w.fields (if field_number f == 0 then (w.version + 2) % 2 ^ 64 else y)) (head_other slot x xs mark c w.node ne f))
     i
 
-pub words_of_mark : (slot : ℕ) (ws : List NodeChange) (v : Visited) (c : Cells) → AreDifferent (nodes_of ws (Some v))
+pub words_of_mark : (slot : ℕ) (ws : List NodeChange) (v : Visited) (c : Cells) → AreDifferent (nodes_in ws (Some v))
     → with_words slot (adds_of ws (Some v)) c v.node Version ≡ (v.version + 1) % 2 ^ 64
 words_of_mark slot [] v c different = written-here v.node Version ((v.version + 1) % 2 ^ 64) c
 words_of_mark slot (x ∷ xs) v c different =
     (λ k. words_append slot (adds_at x.node x.fields) (adds_of xs (Some v)) (written x.node Version ((x.version + 2) % 2 ^ 64) c) k v.node Version)
     ∙ words_of_mark slot xs v (with_words slot (adds_at x.node x.fields) (written x.node Version ((x.version + 2) % 2 ^ 64) c)) different.1
 
-pub has_mark : (ws : List NodeChange) (v : Visited) → has v.node (nodes_of ws (Some v)) ≡ true
+pub has_mark : (ws : List NodeChange) (v : Visited) → has v.node (nodes_in ws (Some v)) ≡ true
 has_mark [] v = has_here v.node []
-has_mark (w ∷ ws) v = has_later v.node w.node (nodes_of ws (Some v)) (has_mark ws v)
+has_mark (w ∷ ws) v = has_later v.node w.node (nodes_in ws (Some v)) (has_mark ws v)
 
-pub mark_fields-in : (ws : List NodeChange) (v : Visited) (f : Field) → AreDifferent (nodes_of ws (Some v)) → Adds v.node f (adds_of ws (Some v)) → f ≡ Version
+pub mark_fields-in : (ws : List NodeChange) (v : Visited) (f : Field) → AreDifferent (nodes_in ws (Some v)) → Adds v.node f (adds_of ws (Some v)) → f ≡ Version
 mark_fields-in [] v f different h = (marked_adds-in (Some v) v.node f h).1
 mark_fields-in (w ∷ ws) v f different h =
-    let ne : v.node ≢ w.node = λ e. true_and_false w.node (nodes_of ws (Some v)) (subst (λ (y : ℕ). has y (nodes_of ws (Some v)) ≡ true) e (has_mark ws v)) different.0 in
+    let ne : v.node ≢ w.node = λ e. true_and_false w.node (nodes_in ws (Some v)) (subst (λ (y : ℕ). has y (nodes_in ws (Some v)) ≡ true) e (has_mark ws v)) different.0 in
     ⊎_elim (λ e. absurd (ne (sym e.0)))
     (λ k. ⊎_elim (λ a. absurd (ne (adds_at-in w.node w.fields v.node f a).0)) (λ b. mark_fields-in ws v f different.1 b)
     (adds_append v.node f (adds_at w.node w.fields) (adds_of ws (Some v)) k)) h

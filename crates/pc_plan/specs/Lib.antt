@@ -2,6 +2,7 @@ pub mod Asking
 pub mod Fitting
 pub mod Lawful
 pub mod Laws
+pub mod NodeChanges
 pub mod Planned
 pub mod Runs
 pub mod SlotsAfter
