@@ -1,40 +1,37 @@
 //! The plan of a get: the walk, and where it finds the key, the value there.
 ghost use Rattle.std.specs.Prelude.{◌≡◌};
+ghost use Rattle.pc_plan.specs.Asking.{asked};
+ghost use Rattle.pc_bst.specs.Gets.{get_walked, get_ended};
 
-use crate::walk::{Step, Walk};
 use pc_model::{Call, Field, Reply, Settle};
-use pc_plan::{Ask, Plan, Told};
-use std::marker::Model;
+use pc_plan::{Change, Plan, Step, Told, Turn, Walk};
 
-/// Where a get is: on its walk, waiting for the value, or at its end.
-#[derive(Clone, Copy)]
+/// Where a get is.
+#[derive(Clone, Copy, Debug, PartialEq, Eq)]
 pub enum GetPhase {
-    Walking(Walk),
+    /// On its walk.
+    Walking,
+    /// Waiting for the value of the node that the walk has come to.
     Reading,
+    /// At its end.
     Ended,
 }
 
 /// The plan of a get.
-#[derive(Drop)]
+#[derive(Debug, Drop)]
 pub struct BstGet {
+    walk: Walk,
     phase: GetPhase,
 }
 
-impl Model for BstGet {
-    ghost use Rattle.pc_bst.specs.declared.get.GetPhase.{GetPhase};
-
-    ghost Value = { GetPhase };
-
-    ghost view = { λ g. g.phase };
-}
-
 impl Plan for BstGet {
-    ghost use Rattle.pc_plan.specs.Lawful.{no_settlement, no_settlement-nothing};
+    ghost use Rattle.pc_model.specs.declared.call.Call.TheVariants.{Get};
     ghost use Rattle.pc_model.specs.Map.{IsKey};
-    ghost use Rattle.pc_bst.specs.Gets.{get_of, get_moves, get_call};
-    ghost use Rattle.pc_bst.specs.GetLaws.{get_runs, get_lawful};
-    ghost use Rattle.pc_bst.specs.PlainTrees.{IsPlainTree};
-    ghost use Rattle.pc_bst.specs.PlainTreeLaws.{plain_parity, plain_full};
+    ghost use Rattle.pc_model.specs.Trees.{plain};
+    ghost use Rattle.pc_model.specs.TreeForms.{tree_form};
+    ghost use Rattle.pc_plan.specs.Terms.{map_terms};
+    ghost use Rattle.pc_bst.specs.Gets.{get_of, get_moves};
+    ghost use Rattle.pc_bst.specs.GetLaws.{get_laws};
 
     type Call = u64;
 
@@ -44,31 +41,22 @@ impl Plan for BstGet {
 
     ghost can_call = { IsKey };
 
-    ghost call_of = { get_call };
+    ghost terms = { λ k. map_terms (Get k) };
 
-    ghost settlement = { no_settlement };
+    ghost form = { tree_form plain };
 
-    ghost sound = { IsPlainTree };
-
-    ghost runs = { get_runs };
-
-    ghost parity = { plain_parity };
-
-    ghost full = { plain_full };
-
-    ghost lawful = { get_lawful };
-
-    ghost settles_nothing = { no_settlement-nothing get_call };
+    ghost laws = { get_laws };
 
     fn begin(call: u64) -> BstGet {
         BstGet {
-            phase: GetPhase::Walking(Walk::new(call)),
+            walk: Walk::new(call),
+            phase: GetPhase::Walking,
         }
     }
 
-    fn next(&mut self, told: Told) -> Ask {
+    fn step(&mut self, told: Told, _change: &mut Change) -> Turn {
         match (self.phase, told) {
-            (GetPhase::Walking(walk), told) => self.walk_on(walk, told),
+            (GetPhase::Walking, told) => self.walk_on(told),
             (GetPhase::Reading, Told::Number(value)) => self.end(Reply::Value(value)),
             _ => self.end(Reply::None),
         }
@@ -84,35 +72,31 @@ impl Plan for BstGet {
 }
 
 impl BstGet {
-    ghost use Rattle.pc_bst.specs.Gets.{get_moves, ended};
-    ghost use Rattle.pc_bst.specs.declared.get.GetPhase.TheVariants.{Walking};
+    ghost use Rattle.pc_plan.specs.Planned.{Planned};
+    ghost use Rattle.pc_plan.specs.Walks.{walk_step};
 
     /// Tells the walk something, and asks for what it does next.
     #[inline]
-    fn walk_on(&mut self, mut walk: Walk, told: Told) -> Ask
-        ensures { (self.new, result) ≡ get_moves (Walking walk) told }
+    fn walk_on(&mut self, told: Told) -> Turn
+        ensures { (p : Planned) → (self.new, asked result p) ≡ get_walked self.old (walk_step self.old.walk told).0 (walk_step self.old.walk told).1 }
     {
-        match walk.step(told) {
-            Step::Visit(node) => {
-                self.phase = GetPhase::Walking(walk);
-                Ask::Visit(node)
-            }
-            Step::Read(node, field) => {
-                self.phase = GetPhase::Walking(walk);
-                Ask::Read(node, field)
-            }
-            Step::Found => {
+        match self.walk.step(told) {
+            Step::Visit(node) => Turn::Visit(node),
+            Step::Read(node, field) => Turn::Read(node, field),
+            Step::Here(key) if key == self.walk.key => {
                 self.phase = GetPhase::Reading;
-                Ask::Read(walk.node, Field::Value)
+                Turn::Read(self.walk.node, Field::Value)
             }
+            Step::Here(key) => self.walk.go_on(key),
             Step::Missing(_, _) | Step::Astray => self.end(Reply::None),
         }
     }
 
-    fn end(&mut self, reply: Reply) -> Ask
-        ensures { (self.new, result) ≡ ended reply }
+    #[inline]
+    fn end(&mut self, reply: Reply) -> Turn
+        ensures { (p : Planned) → (self.new, asked result p) ≡ get_ended self.old.walk reply }
     {
         self.phase = GetPhase::Ended;
-        Ask::Answer(reply)
+        Turn::Answer(reply)
     }
 }

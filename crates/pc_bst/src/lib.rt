@@ -4,20 +4,5 @@
 #![tactic(auto)]
 
 mod get;
-mod laws;
-#[cfg(test)]
-mod plan_tests;
-mod put;
-mod remove;
-#[cfg(test)]
-mod remove_tests;
-#[cfg(test)]
-mod test_helpers;
-mod unlink;
-mod version;
-mod walk;
 
 pub use get::BstGet;
-pub use laws::plans_stand_for_their_calls;
-pub use put::BstPut;
-pub use remove::BstRemove;

@@ -4,6 +4,7 @@ pub mod Lawful
 pub mod Laws
 pub mod NodeChanges
 pub mod Planned
+pub mod Quiet
 pub mod Runs
 pub mod SlotsAfter
 pub mod Terms
