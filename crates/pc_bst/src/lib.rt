@@ -4,5 +4,7 @@
 #![tactic(auto)]
 
 mod get;
+mod put;
 
 pub use get::BstGet;
+pub use put::BstPut;

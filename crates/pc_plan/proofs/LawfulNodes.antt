@@ -1,8 +1,8 @@
 -- An exchange by nodes is lawful where its nodes are different and its numbers were told, and what it
 -- leaves is looked up node by node.
-use Rattle.std.proofs.Common.{◌≡◌, ◌≢◌, ℕ, ◌+◌, ◌%◌, ◌^◌, ◌<◌, ◌≤◌, ◌==◌, inl, inr, ⊎_elim, if◌then◌else◌, true, false, List, [], ◌∷◌, ◌++◌, length, Option, Some, None, refl, sym, ap, ◌∙◌, subst, arith}
+use Rattle.std.proofs.Common.{◌≡◌, ◌≢◌, ℕ, ◌+◌, ◌%◌, ◌^◌, ◌<◌, ◌≤◌, ◌==◌, ◌⊎◌, inl, inr, ⊎_elim, if◌then◌else◌, true, false, List, [], ◌∷◌, ◌++◌, length, Option, Some, None, refl, sym, ap, ◌∙◌, subst, arith}
 use Rattle.std.specs.Prelude.{IsSome, IfSome}
-use Rattle.std.proofs.lemmas.Bool.{eq-eqb, ne_eqb, cond-true, cond-false}
+use Rattle.std.proofs.lemmas.Bool.{cases_eq, eq-eqb, eqb-false, ne_eqb, cond-true, cond-false}
 use Rattle.pc_model.specs.declared.cell.Field.{Field}
 use Rattle.pc_model.specs.declared.cell.Field.TheVariants.{Version}
 use Rattle.pc_model.specs.Cells.{Cells, field_number}
@@ -15,12 +15,12 @@ use Rattle.pc_plan.specs.declared.change.Fresh.{Fresh}
 use Rattle.pc_plan.specs.SlotsAfter.{is_node}
 use Rattle.pc_plan.specs.Traces.{Event, version_seen, number_seen}
 use Rattle.pc_plan.specs.Planned.{raised, removed}
-use Rattle.pc_plan.specs.Runs.{fresh_fields, fresh_at, exchange_of}
+use Rattle.pc_plan.specs.Runs.{number_at, fresh_fields, fresh_at, exchange_of}
 use Rattle.pc_plan.specs.Lawful.{rise_of, FitsWord, AreFitting, IsToldFresh, IsToldWord, AreToldWords, Adds, AreOnce, AddsVersions, NamesFresh, MarksAlone, IsLawfulChange}
 use Rattle.pc_plan.proofs.Learning.{is_some-seen}
-use Rattle.pc_plan.proofs.WrittenWords.{with_words, words_else, adds_append, adds_behind}
+use Rattle.pc_plan.proofs.WrittenWords.{with_words, fresh_other, words_else, adds_append, adds_behind}
 use Rattle.pc_plan.specs.NodeChanges.{FieldChange, NodeChange, adds_at, adds_of, mark_of, ByNodes, planned_by}
-use Rattle.pc_plan.proofs.NodeWords.{nodes_in, numbers_of, AreFields, among_not, true_and_false, adds_at-in, not_added, fields_not_version, looked_up, field_after, IsAmong, HaveFields, words_of_node, words_of_mark, has_mark, mark_fields-in}
+use Rattle.pc_plan.proofs.NodeWords.{nodes_in, numbers_of, AreFields, among_not, true_and_false, adds_at-in, not_added, fields_not_version, looked_up, looked_up-none, not_among, field_after, IsAmong, HaveFields, words_of_node, words_of_mark, has_mark, mark_fields-in}
 
 -- these fields of a node were told, and what they get fits
 abbrev pub AreToldFields : List Event → Option Fresh → ℕ → List FieldChange → Type 0
@@ -204,10 +204,6 @@ lawful_by_nodes past b h = record {
 
 -- What the exchange leaves, node by node
 
-fresh_other : (fresh : Option Fresh) (slot version : ℕ) (c : Cells) (m : ℕ) (f : Field) → (IsSome fresh → m ≢ slot) → with_fresh (fresh_at slot version fresh) c m f ≡ c m f
-fresh_other None slot version c m f other = refl
-fresh_other (Some x) slot version c m f other = with_node-other slot (fresh_fields version x) c m f (other refl)
-
 module _ (past : List Event) (b : ByNodes) (slot version : ℕ) (c : Cells) (different : AreDifferent (nodes_in b.nodes b.mark)) (fields : HaveFields b.nodes) where
   abbrev left : Cells
   left = applied (exchange_of past (planned_by b) slot version) c
@@ -227,6 +223,49 @@ module _ (past : List Event) (b : ByNodes) (slot version : ℕ) (c : Cells) (dif
   applied_fresh x f is out =
       words_else slot (adds_of b.nodes b.mark) (with_fresh (fresh_at slot version b.fresh) c) slot f (not_added b.nodes b.mark slot f out)
       ∙ ap (λ (y : Option Fresh). with_fresh (fresh_at slot version y) c slot f) is ∙ with_node-here slot (fresh_fields version x) c f
+
+-- what a field gets that stands first
+pub looked_up-here : (slot : ℕ) (x : FieldChange) (xs : List FieldChange) (old : ℕ) → looked_up slot x.field (x ∷ xs) old ≡ number_at slot x.new
+looked_up-here slot x xs old = cond-true (field_number x.field == field_number x.field) (number_at slot x.new) (looked_up slot x.field xs old) (eq-eqb (field_number x.field) (field_number x.field) refl)
+
+-- the versions of some nodes are those of the cells
+abbrev pub HaveVersions : Cells → List NodeChange → Type 0
+HaveVersions c [] = Unit {0}
+HaveVersions c (w ∷ ws) = (c w.node Version ≡ w.version) × HaveVersions c ws
+
+among_or_not : (m : ℕ) (ws : List NodeChange) (mark : Option Visited) → is_node (mark_of mark) m ≡ false → ((w : NodeChange) × IsAmong w ws × (w.node ≡ m)) ⊎ (has m (nodes_in ws mark) ≡ false)
+among_or_not m [] None unmarked = inr refl
+among_or_not m [] (Some v) unmarked = inr (not_among m v.node [] (λ e. eqb-false v.node m unmarked (sym e)) refl)
+among_or_not m (w ∷ ws) mark unmarked = ⊎_elim
+    (λ e. inl (w, inl refl, sym e))
+    (λ ne. ⊎_elim (λ h. inl (h.0, inr h.1, h.2)) (λ out. inr (not_among m w.node (nodes_in ws mark) ne out)) (among_or_not m ws mark unmarked))
+    (cases_eq m w.node)
+
+version_among : (c : Cells) (w : NodeChange) (ws : List NodeChange) → HaveVersions c ws → IsAmong w ws → c w.node Version ≡ w.version
+version_among c w [] versions i = absurd i
+version_among c w (x ∷ xs) versions i = ⊎_elim (λ e. subst (λ (y : NodeChange). c y.node Version ≡ y.version) (sym e) versions.0) (λ j. version_among c w xs versions.1 j) i
+
+fields_among : (w : NodeChange) (ws : List NodeChange) → HaveFields ws → IsAmong w ws → AreFields w.fields
+fields_among w [] fields i = absurd i
+fields_among w (x ∷ xs) fields i = ⊎_elim (λ e. subst (λ (y : NodeChange). AreFields y.fields) (sym e) fields.0) (λ j. fields_among w xs fields.1 j) i
+
+-- versions keep their parity, but for the marked node's and the fresh one's
+pub parity_by_nodes : (past : List Event) (b : ByNodes) (slot version : ℕ) (c : Cells) → AreDifferent (nodes_in b.nodes b.mark) → HaveFields b.nodes → HaveVersions c b.nodes
+    → (m : ℕ) → is_node (mark_of b.mark) m ≡ false → (IsSome b.fresh → m ≢ slot) → applied (exchange_of past (planned_by b) slot version) c m Version % 2 ≡ c m Version % 2
+parity_by_nodes past b slot version c different fields versions m unmarked other = ⊎_elim
+    (λ h. let w : NodeChange = h.0 in
+    let e : w.node ≡ m = h.2 in
+    let there : IsAmong w b.nodes = h.1 in
+    let after : applied (exchange_of past (planned_by b) slot version) c w.node Version ≡ field_after slot w c Version
+    = applied_node past b slot version c different fields w Version there (λ some. subst (λ (x : ℕ). x ≢ slot) (sym e) (other some)) in
+    let none : looked_up slot Version w.fields ((w.version + 2) % 2 ^ 64) ≡ (w.version + 2) % 2 ^ 64
+    = looked_up-none slot Version w.fields ((w.version + 2) % 2 ^ 64) (fields_not_version w.fields (fields_among w b.nodes fields there)) in
+    let was : c w.node Version ≡ w.version = version_among c w b.nodes versions there in
+    let up : (w.version + 2) % 2 ^ 64 % 2 ≡ w.version % 2 = omega arith in
+    subst (λ (x : ℕ). applied (exchange_of past (planned_by b) slot version) c x Version % 2 ≡ c x Version % 2) e
+    (ap (λ (x : ℕ). x % 2) (after ∙ none) ∙ up ∙ ap (λ (x : ℕ). x % 2) (sym was)))
+    (λ out. ap (λ (x : ℕ). x % 2) (applied_else past b slot version c different fields m Version out other))
+    (among_or_not m b.nodes b.mark unmarked)
 
 -- the marked node has its next version, and its other fields are as before
 pub applied_mark : (past : List Event) (ws : List NodeChange) (v : Visited) (fresh : Option Fresh) (b : ByNodes) (slot version : ℕ) (c : Cells) → b.nodes ≡ ws → b.mark ≡ Some v

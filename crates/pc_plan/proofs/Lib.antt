@@ -4,6 +4,7 @@ pub mod FittingPlans
 pub mod LawfulNodes
 pub mod Learning
 pub mod NodeWords
+pub mod Quiets
 pub mod Unseen
 pub mod WalkCourses
 pub mod WalkLawful

@@ -98,7 +98,7 @@ looked_up slot f (x ∷ xs) old = if field_number x.field == field_number f then
 abbrev pub field_after : ℕ → NodeChange → Cells → Field → ℕ
 field_after slot w c f = looked_up slot f w.fields (if field_number f == 0 then (w.version + 2) % 2 ^ 64 else c w.node f)
 
-looked_up-none : (slot : ℕ) (f : Field) (xs : List FieldChange) (old : ℕ) → has (field_number f) (numbers_of xs) ≡ false → looked_up slot f xs old ≡ old
+pub looked_up-none : (slot : ℕ) (f : Field) (xs : List FieldChange) (old : ℕ) → has (field_number f) (numbers_of xs) ≡ false → looked_up slot f xs old ≡ old
 looked_up-none slot f [] old out = refl
 looked_up-none slot f (x ∷ xs) old out =
     let parts : (field_number f ≢ field_number x.field) × (has (field_number f) (numbers_of xs) ≡ false) = among_not (field_number f) (field_number x.field) (numbers_of xs) out in

@@ -2,7 +2,7 @@
 -- each of its steps keeps, for every plan that begins with it.
 use Rattle.std.proofs.Common.{◌≡◌, ◌≢◌, ℕ, ◌^◌, ◌<◌, ◌==◌, ◌⊎◌, inl, inr, ⊎_elim, false, List, [], ◌∷◌, Option, Some, None, refl, sym, ap, ◌∙◌, subst, arith}
 use Rattle.std.specs.Prelude.{IsSome}
-use Rattle.std.proofs.lemmas.Bool.{cases_Bool, eqb-false, or_parts, cond-true, cond-false}
+use Rattle.std.proofs.lemmas.Bool.{cases_Bool, eqb-false, or_parts, cond-true, cond-false, cond_both}
 use Rattle.pc_model.specs.declared.cell.Field.{Field}
 use Rattle.pc_model.specs.declared.cell.Field.TheVariants.{Key as KeyField}
 use Rattle.pc_model.specs.Cells.{node_at}
@@ -16,7 +16,7 @@ use Rattle.pc_model.specs.declared.cell.Side.{Side}
 use Rattle.pc_model.specs.declared.cell.Side.TheVariants.{Left}
 use Rattle.pc_plan.specs.declared.walk.Above.{Above}
 use Rattle.pc_plan.specs.declared.walk.Awaited.{Awaited}
-use Rattle.pc_plan.specs.declared.walk.Awaited.TheVariants.{Version as AVersion, Key as AKey, Link}
+use Rattle.pc_plan.specs.declared.walk.Awaited.TheVariants.{Begin as ToBegin, Version as AVersion, Key as AKey, Choice, Link}
 use Rattle.pc_plan.specs.declared.walk.Walk.{Walk}
 use Rattle.pc_plan.specs.declared.walk.Step.{Step}
 use Rattle.pc_plan.specs.declared.walk.Step.TheVariants.{Visit, Read, Here, Missing, Astray}
@@ -178,3 +178,28 @@ waits_lawful past w (AskAnswer r) h = absurd h
 pub goes_on : (past : List Event) (w : Walk) (x : ℕ) → HasCome past w → reads_since_visit past < 8
     → Waits past (on_way w x) (AskRead w.node (way w x))
 goes_on past w x come few = (refl, record { seen = come.seen; small = come.small }, inr (_, refl, refl, few))
+
+-- no step of a walk changes its key
+
+follow_keeps_key : (w : Walk) (s : Side) (x : ℕ) (o : Option ℕ) → (following w s x o).0.key ≡ w.key
+follow_keeps_key w s x None = refl
+follow_keeps_key w s x (Some n) = cond_both (has n (w.node ∷ 1 ∷ [])) (w, Astray) (descending w s n) (λ (y : Walk × Step). y.0.key ≡ w.key) (λ _. refl) (λ _. refl)
+
+step_keeps_key : (w : Walk) (a : Awaited) (t : Told) → (step_at w a t).0.key ≡ w.key
+step_keeps_key w ToBegin Begin = refl
+step_keeps_key w ToBegin (Version v) = refl
+step_keeps_key w ToBegin (Number x) = refl
+step_keeps_key w AVersion Begin = refl
+step_keeps_key w AVersion (Version v) =
+    cond_both (w.node == 1) (reading_link (at_version w v w.awaited) Left) (at_version w v AKey, Read w.node KeyField) (λ (y : Walk × Step). y.0.key ≡ w.key) (λ _. refl) (λ _. refl)
+step_keeps_key w AVersion (Number x) = refl
+step_keeps_key w AKey Begin = refl
+step_keeps_key w AKey (Version v) = refl
+step_keeps_key w AKey (Number x) = refl
+step_keeps_key w Choice t = refl
+step_keeps_key w (Link s) Begin = refl
+step_keeps_key w (Link s) (Version v) = refl
+step_keeps_key w (Link s) (Number x) = follow_keeps_key w s x (node_at x)
+
+pub walk_keeps_key : (w : Walk) (t : Told) → (walk_step w t).0.key ≡ w.key
+walk_keeps_key w t = step_keeps_key w w.awaited t

@@ -1,14 +1,17 @@
 -- What cells hold after the words of an exchange are written: a look-up, proved once.
-use Rattle.std.proofs.Common.{◌≡◌, ℕ, ◌==◌, ◌⊎◌, inl, inr, ⊎_elim, List, [], ◌∷◌, ◌++◌, refl, sym, ap, ◌∙◌, subst}
-use Rattle.std.specs.Prelude.{map}
+use Rattle.std.proofs.Common.{◌≡◌, ◌≢◌, ℕ, ◌==◌, ◌⊎◌, inl, inr, ⊎_elim, List, [], ◌∷◌, ◌++◌, refl, sym, ap, ◌∙◌, subst}
+use Rattle.std.specs.Prelude.{map, Option, Some, None, IsSome}
 use Rattle.std.proofs.lemmas.Bool.{cases_eq, cases_Bool, eqb-true, eqb-false}
 use Rattle.pc_model.specs.declared.cell.Field.{Field}
 use Rattle.pc_model.specs.Cells.{Cells, field_number, written}
-use Rattle.pc_model.specs.Exchanges.{with_changes}
-use Rattle.pc_model.proofs.Writes.{same_field, written-here, written-else}
+use Rattle.pc_model.specs.Exchanges.{with_changes, with_fresh, applied}
+use Rattle.pc_model.proofs.Writes.{same_field, written-here, written-else, with_node-other}
 use Rattle.pc_plan.specs.declared.change.To.{To}
 use Rattle.pc_plan.specs.declared.change.Add.{Add}
-use Rattle.pc_plan.specs.Runs.{number_at, change_at}
+use Rattle.pc_plan.specs.declared.change.Fresh.{Fresh}
+use Rattle.pc_plan.specs.Planned.{Planned}
+use Rattle.pc_plan.specs.Traces.{Event}
+use Rattle.pc_plan.specs.Runs.{number_at, change_at, fresh_fields, fresh_at, exchange_of}
 use Rattle.pc_plan.specs.Lawful.{Adds, AreOnce}
 
 -- the cells with the words of some adds, where a fresh node takes a slot
@@ -37,6 +40,11 @@ added_or_not n f (a ∷ adds) = ⊎_elim
     (λ other_node. inr (λ h. ⊎_elim (λ e. other_node e.0) not_later h))
     (cases_eq a.node n))
     (added_or_not n f adds)
+
+-- a node other than the fresh one is as before
+pub fresh_other : (fresh : Option Fresh) (slot version : ℕ) (c : Cells) (m : ℕ) (f : Field) → (IsSome fresh → m ≢ slot) → with_fresh (fresh_at slot version fresh) c m f ≡ c m f
+fresh_other None slot version c m f other = refl
+fresh_other (Some x) slot version c m f other = with_node-other slot (fresh_fields version x) c m f (other refl)
 
 -- a word that gets nothing is as before
 pub words_else : (slot : ℕ) (adds : List Add) (c : Cells) (n : ℕ) (f : Field) → (Adds n f adds → ⊥) → with_words slot adds c n f ≡ c n f
@@ -68,3 +76,9 @@ adds_append n f (x ∷ xs) ys h = ⊎_elim (λ e. inl (inl e)) (λ k. ⊎_elim (
 pub adds_behind : (n : ℕ) (f : Field) (xs ys : List Add) → Adds n f ys → Adds n f (xs ++ ys)
 adds_behind n f [] ys h = h
 adds_behind n f (x ∷ xs) ys h = inr (adds_behind n f xs ys h)
+
+-- after an exchange, a word that gets nothing is as before
+pub applied_else_word : (past : List Event) (p : Planned) (slot version : ℕ) (c : Cells) (n : ℕ) (f : Field) → (Adds n f p.adds → ⊥)
+    → (IsSome p.fresh → n ≢ slot) → applied (exchange_of past p slot version) c n f ≡ c n f
+applied_else_word past p slot version c n f out other =
+    words_else slot p.adds (with_fresh (fresh_at slot version p.fresh) c) n f out ∙ fresh_other p.fresh slot version c n f other
