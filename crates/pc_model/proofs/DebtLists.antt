@@ -1,6 +1,8 @@
 -- Lists of keys that are owed, and what is owed after each change.
-use Rattle.std.proofs.Common.{◌≡◌, ◌≢◌, ℕ, zero, suc, ◌+◌, ◌-◌, ◌≤◌, ◌<◌, ◌==◌, ◌⊎◌, inl, inr, nat_lt, true, false, not, ◌||◌, List, [], ◌∷◌, ◌++◌, length, take, drop, slice_index, subst, ⊎_elim, get_or, Option, Some, None, refl, ap, sym, ◌∙◌, arith}
-use Rattle.std.proofs.lemmas.Bool.{cond_both, cases_eq, eq-eqb, eqb-true, ltb-false}
+use Rattle.std.proofs.Common.{◌≡◌, ◌≢◌, ℕ, zero, suc, ◌+◌, ◌-◌, ◌≤◌, ◌<◌, ◌==◌, ◌⊎◌, inl, inr, nat_lt, true, false}
+use Rattle.std.proofs.Common.{not, ◌||◌, List, [], ◌∷◌, ◌++◌, length, take, drop, slice_index, subst, ⊎_elim, get_or}
+use Rattle.std.proofs.Common.{Option, Some, None, refl, ap, sym, ◌∙◌, arith}
+use Rattle.std.proofs.lemmas.Bool.{cond_both, cases_eq, cases_lt, eq-eqb, eqb-true, ltb-false}
 use Rattle.std.proofs.lemmas.Bool.Decides.{nat_tests}
 use Rattle.std.proofs.lemmas.List.{take-append-drop, take-append-le, length-take-le}
 use Rattle.std.proofs.lemmas.Slice.{put_mid-rotated}
@@ -11,8 +13,11 @@ use Rattle.std.proofs.lemmas.List.Folds.{list_any-append, list_any_at}
 use Rattle.std.proofs.lemmas.Iterator.Adapters.{position_from-zero}
 use Rattle.std.specs.List.{remove, position, position_from}
 use Rattle.std.specs.Option.{IsSomeAnd}
-use Rattle.pc_model.specs.Debts.{Debts, has, AreDifferent, IsOwed, without_key, lowered, with_room, charged, put_in_front, released}
-use Rattle.pc_model.specs.DebtLaws.{NoDebtIsForgotten}
+use Rattle.pc_model.specs.declared.owed.Settle.{Settle}
+use Rattle.pc_model.specs.declared.owed.Settle.TheVariants.{Nothing, Release, First, Raise}
+use Rattle.pc_model.specs.Debts.{Debts, has, AreDifferent, IsOwed, without_key, lowered, with_room, charged}
+use Rattle.pc_model.specs.Debts.{put_in_front, released, raised, settled, all_charged}
+use Rattle.pc_model.specs.DebtLaws.{MayForget, NoDebtIsForgotten}
 
 -- Keys in a list
 
@@ -192,6 +197,35 @@ owed_after_put_first q k d owed =
 pub owed_after_release : (q k : ℕ) (d : Debts) → q ≢ k → IsOwed q d → IsOwed q (released k d)
 owed_after_release q k d differs owed = ⊎_elim (λ there. inl (has-without_other q k d.keys differs ∙ there)) inr owed
 
+-- Settlements, and the charges after them
+
+-- a key of a longer list is the front or stands behind it
+pub has-cases : (q k : ℕ) (keys : List ℕ) → has q (k ∷ keys) ≡ true → (q ≡ k) ⊎ (has q keys ≡ true)
+has-cases q k keys there = ⊎_elim inl (λ differs. inr (grind (arith, nat_tests))) (cases_eq q k)
+
+owed_after_raise : (q : ℕ) (to : Option ℕ) (d : Debts) → IsOwed q d → IsOwed q (raised to d) ⊎ MayForget (Raise to) d q
+owed_after_raise q None d owed = ⊎_elim (λ there. inl (inl there)) (λ reached. inr (reached, tt)) owed
+owed_after_raise q (Some n) d owed = ⊎_elim (λ there. inl (inl there))
+    (λ reached. ⊎_elim (λ below. inr (reached, below)) (λ from. inl (inr from)) (cases_lt q n)) owed
+
+settled_forgets : (q : ℕ) (s : Settle) (d : Debts) → IsOwed q d → IsOwed q (settled s d) ⊎ MayForget s d q
+settled_forgets q Nothing d owed = inl owed
+settled_forgets q (Release k) d owed =
+    ⊎_elim inr (λ differs. inl (owed_after_release q k d differs owed)) (cases_eq q k)
+settled_forgets q (First k) d owed = inl (owed_after_put_first q k d owed)
+settled_forgets q (Raise to) d owed = owed_after_raise q to d owed
+
+pub owed_after_charges : (q : ℕ) (charges : List ℕ) (d : Debts) → IsOwed q d → IsOwed q (all_charged charges d)
+owed_after_charges q [] d owed = owed
+owed_after_charges q (k ∷ charges) d owed = owed_after_charges q charges (charged k d) (owed_after_charge q k d owed)
+
+pub charges_are_owed : (q : ℕ) (charges : List ℕ) (d : Debts) → has q charges ≡ true → IsOwed q (all_charged charges d)
+charges_are_owed q [] d there = absurd cc
+charges_are_owed q (k ∷ charges) d there = ⊎_elim
+    (λ same. owed_after_charges q charges (charged k d) (rw same (charged_is_owed k d)))
+    (λ behind. charges_are_owed q charges (charged k d) behind)
+    (has-cases q k charges there)
+
 pub no_debt_is_forgotten : NoDebtIsForgotten
 no_debt_is_forgotten = record {
   charged_is_owed = charged_is_owed;
@@ -199,4 +233,7 @@ no_debt_is_forgotten = record {
   first_is_owed = first_is_owed;
   owed_after_put_first = owed_after_put_first;
   owed_after_release = owed_after_release;
+  settled_forgets = settled_forgets;
+  owed_once_settled = λ q s charges d. owed_after_charges q charges (settled s d);
+  charges_are_owed = λ q s charges d. charges_are_owed q charges (settled s d);
 }

@@ -1,16 +1,17 @@
--- Nothing is owed without a reason.
-use Rattle.std.proofs.Common.{◌≡◌, ℕ, ◌-◌, ◌≤◌, ◌==◌, ◌⊎◌, inl, inr, nat_lt, true, false, List, ◌∷◌, length, take, slice_index, ⊎_elim, get_or, Option, Some, None, refl, sym, ◌∙◌, arith}
+-- Nothing is owed without a reason, and what is owed first is owed.
+use Rattle.std.proofs.Common.{◌≡◌, ℕ, ◌-◌, ◌≤◌, ◌==◌, ◌⊎◌, ◌↔◌, inl, inr, nat_lt, true, false, IsTrue, List, [], ◌∷◌}
+use Rattle.std.proofs.Common.{length, take, slice_index, ⊎_elim, get_or, Option, Some, None, IfSome, refl, sym, ◌∙◌}
+use Rattle.std.proofs.Common.{arith}
 use Rattle.std.proofs.lemmas.Bool.{cond_both, cases_Bool, cases_eq, cases_lt, eq-eqb, ltb-false}
-use Rattle.std.proofs.lemmas.Bool.Decides.{nat_tests}
 use Rattle.std.proofs.lemmas.List.Folds.{list_any_at}
 use Rattle.std.specs.Option.{IsSomeAnd}
 use Rattle.pc_model.specs.declared.owed.Owing.TheVariants.{Key}
-use Rattle.pc_model.specs.Debts.{Debts, has, IsOwed, without_key, lowered, with_room, charged, put_in_front, released, first_owed}
-use Rattle.pc_model.specs.DebtLaws.{IsReached, HasKeyTo, NoDebtIsInvented}
-use Rattle.pc_model.proofs.DebtLists.{has-without_key, has-without_other, has-with_room}
-
-has-cases : (q k : ℕ) (keys : List ℕ) → has q (k ∷ keys) ≡ true → (q ≡ k) ⊎ (has q keys ≡ true)
-has-cases q k keys there = ⊎_elim inl (λ differs. inr (grind (arith, nat_tests))) (cases_eq q k)
+use Rattle.pc_model.specs.declared.owed.Settle.{Settle}
+use Rattle.pc_model.specs.declared.owed.Settle.TheVariants.{Nothing, Release, First, Raise}
+use Rattle.pc_model.specs.Debts.{Debts, has, IsOwed, without_key, lowered, with_room, charged, put_in_front, released}
+use Rattle.pc_model.specs.Debts.{raised, settled, first_owed}
+use Rattle.pc_model.specs.DebtLaws.{IsReached, HasKeyTo, IsSettled, NoDebtIsInvented, IsOwing, FirstOwedIsOwed}
+use Rattle.pc_model.proofs.DebtLists.{has-front, has-cases, has-without_key, has-without_other, has-with_room}
 
 has-of_without : (q k : ℕ) (keys : List ℕ) → has q (without_key k keys) ≡ true → has q keys ≡ true
 has-of_without q k keys there = ⊎_elim
@@ -55,13 +56,43 @@ put_first_is_first k d =
     cond_both (has k d.keys) (record { keys = k ∷ without_key k d.keys; from = d.from }) (record { keys = k ∷ (with_room d).keys; from = (with_room d).from })
     (λ (e : Debts). first_owed e.keys e.from ≡ Some (Key k)) (λ there. refl) (λ absent. refl)
 
+settles : (s : Settle) (d : Debts) → IsSettled s d (settled s d)
+settles Nothing d = refl
+settles (Release k) d = has-without_key k d.keys
+settles (First k) d = put_first_is_first k d
+settles (Raise to) d = refl
+
+after_raise_to_none : (q : ℕ) (d : Debts) → IsOwed q (raised None d) ↔ IsTrue (has q d.keys)
+after_raise_to_none q d = (λ owed. ⊎_elim (λ there. there) (λ none. absurd none) owed, inl)
+
 pub no_debt_is_invented : NoDebtIsInvented
 no_debt_is_invented = record {
   after_charge = after_charge;
   after_put_first = after_put_first;
   after_release = after_release;
-  listed_after_raise = λ q to d there. inl there;
-  owed_after_raise = λ q n d le. inr le;
+  after_raise_to_none = after_raise_to_none;
+  after_raise = λ q n d. (λ owed. owed, λ owed. owed);
+  settles = settles;
   put_first_is_first = put_first_is_first;
   keys_before_number = λ k keys from. refl;
+}
+
+-- What is owed first
+
+first_owed-none : (keys : List ℕ) (from : Option ℕ)
+    → (first_owed keys from ≡ None) ↔ ((q : ℕ) → IsOwed q (record { keys = keys; from = from }) → ⊥)
+first_owed-none [] None = (λ _ q owed. ⊎_elim (λ there. absurd cc) (λ none. none) owed, λ _. refl)
+first_owed-none [] (Some n) = (λ e. absurd cc, λ nothing. let le : n ≤ n = omega arith in absurd (nothing n (inr le)))
+first_owed-none (k ∷ keys) from = (λ e. absurd cc, λ nothing. absurd (nothing k (inl (has-front k keys))))
+
+first_owed-some : (keys : List ℕ) (from : Option ℕ)
+    → IfSome (first_owed keys from) (IsOwing (record { keys = keys; from = from }))
+first_owed-some [] None = tt
+first_owed-some [] (Some n) = (refl, λ q. (λ owed. ⊎_elim (λ there. absurd cc) (λ le. le) owed, inr))
+first_owed-some (k ∷ keys) from = inl (has-front k keys)
+
+pub first_owed_is_owed : FirstOwedIsOwed
+first_owed_is_owed = record {
+  none = λ d. first_owed-none d.keys d.from;
+  some = λ d. first_owed-some d.keys d.from;
 }

@@ -1,8 +1,11 @@
 -- What a client owes: a list of keys, and perhaps every key from a number on.
-use Rattle.std.specs.Prelude.{◌≡◌, ℕ, ◌-◌, ◌≤◌, ◌==◌, ◌⊎◌, nat_lt, min, Bool, false, not, IsTrue, if◌then◌else◌, List, [], ◌∷◌, length, take, slice_index, filter, Option, Some, None, IsSomeAnd}
-use Rattle.std.specs.List.{list_any}
+use Rattle.std.specs.Prelude.{◌≡◌, ℕ, ◌-◌, ◌≤◌, ◌==◌, ◌⊎◌, nat_lt, min, Bool, false, not, IsTrue, if◌then◌else◌, List}
+use Rattle.std.specs.Prelude.{[], ◌∷◌, length, take, slice_index, filter, Option, Some, None, IsSomeAnd}
+use Rattle.std.specs.List.{list_any, fold}
 use Rattle.pc_model.specs.declared.owed.Owing.{Owing}
 use Rattle.pc_model.specs.declared.owed.Owing.TheVariants.{Key, From}
+use Rattle.pc_model.specs.declared.owed.Settle.{Settle}
+use Rattle.pc_model.specs.declared.owed.Settle.TheVariants.{Nothing, Release, First, Raise}
 
 pub record Debts : Type 0 where
   pub keys : List ℕ
@@ -60,6 +63,21 @@ released k d = record { keys = without_key k d.keys; from = d.from }
 -- the number is another, or none
 abbrev pub raised : Option ℕ → Debts → Debts
 raised to d = record { keys = d.keys; from = to }
+
+-- the debts with a settlement
+abbrev pub settled : Settle → Debts → Debts
+settled Nothing d = d
+settled (Release k) d = released k d
+settled (First k) d = put_in_front k d
+settled (Raise to) d = raised to d
+
+-- the debts with these charges, one after another
+abbrev pub all_charged : List ℕ → Debts → Debts
+all_charged keys d = fold (λ e k. charged k e) d keys
+
+-- the debts with a settlement first, and then with the charges that came with it
+abbrev pub taken_up : Settle → List ℕ → Debts → Debts
+taken_up settlement charges d = all_charged charges (settled settlement d)
 
 -- what is owed first: the front of the list, or else the number
 abbrev pub first_owed : List ℕ → Option ℕ → Option Owing

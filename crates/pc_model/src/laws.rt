@@ -1,5 +1,5 @@
 //! The laws of the definitions, each on a function with no code.
-ghost use Rattle.pc_model.specs.DebtLaws.{NoDebtIsForgotten, NoDebtIsInvented};
+ghost use Rattle.pc_model.specs.DebtLaws.{FirstOwedIsOwed, NoDebtIsForgotten, NoDebtIsInvented};
 ghost use Rattle.pc_model.specs.EntryLaws.{GoesInParts, IsItsCallsInOrder};
 ghost use Rattle.pc_model.specs.MapLaws.{FindsNearest, IsFiniteMap};
 
@@ -26,16 +26,24 @@ pub fn history_of_one_client_is_its_calls()
     ensures { IsItsCallsInOrder }
 {}
 
-/// A key that is charged or put first is owed, and every key that was owed before still is; after a
-/// release every other key still is.
+/// A key that is charged or put first is owed, and every key that was owed before still is. A release
+/// forgets at most its key, a raise at most the keys from the old number up to the new one, and
+/// another settlement nothing. Charges that are entered after a settlement are owed, whatever it settles.
 pub fn no_debt_is_forgotten()
     ensures { NoDebtIsForgotten }
 {}
 
 /// Nothing is owed without a reason: after a charge only what was owed and the keys from this one up,
 /// after a key was put first only it, what was owed, and the keys from one of the list up. A released
-/// key that the number doesn't reach isn't owed. What was put first comes first, and every key of the
-/// list before the number.
+/// key that the number doesn't reach isn't owed. After a raise exactly the keys of the list are owed,
+/// and where there is a new number, those from it up. What was put first comes first, and every key of
+/// the list before the number. A settlement does what it names.
 pub fn no_debt_is_invented()
     ensures { NoDebtIsInvented }
+{}
+
+/// Something comes first exactly where something is owed. A key that comes first is owed; a number
+/// comes first only where no key is listed, and exactly the keys from it up are owed.
+pub fn first_owed_is_owed()
+    ensures { FirstOwedIsOwed }
 {}

@@ -49,7 +49,8 @@ impl Model for Owed {
 }
 
 impl Owed {
-    ghost use Rattle.pc_model.specs.Debts.{no_debts, has, AreDifferent, charged, put_in_front, released, raised, first_owed, lowered, with_room};
+    ghost use Rattle.pc_model.specs.Debts.{no_debts, has, AreDifferent, charged, put_in_front, released, raised};
+    ghost use Rattle.pc_model.specs.Debts.{settled, first_owed, lowered, with_room};
 
     /// Nothing is owed.
     pub fn none() -> Owed
@@ -105,6 +106,18 @@ impl Owed {
         ensures { self.new ≡ raised to self.old }
     {
         self.from = to;
+    }
+
+    /// Settles what a call settles.
+    pub fn settle(&mut self, settle: Settle)
+        ensures { self.new ≡ settled settle self.old }
+    {
+        match settle {
+            Settle::Nothing => {}
+            Settle::Release(key) => self.release(key),
+            Settle::First(key) => self.put_first(key),
+            Settle::Raise(to) => self.raise(to),
+        }
     }
 
     /// What is owed first: the front of the list, or else the number.

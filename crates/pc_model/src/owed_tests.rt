@@ -189,6 +189,23 @@ fn the_front_is_owed_first_and_then_the_number(rt: HostRuntime) {
 }
 
 #[test]
+fn a_settlement_does_what_it_names(rt: HostRuntime) {
+    let rows: [(Settle, &[u64], Option<u64>); 6] = [
+        (Settle::Nothing, &[7, 5, 9], Some(8)),
+        (Settle::Release(5), &[7, 9], Some(8)),
+        (Settle::First(5), &[5, 7, 9], Some(8)),
+        (Settle::First(2), &[2, 7, 5, 9], Some(8)),
+        (Settle::Raise(Some(30)), &[7, 5, 9], Some(30)),
+        (Settle::Raise(None), &[7, 5, 9], None),
+    ];
+    for (settle, keys, from) in rows {
+        let mut owed = owing(&[7, 5, 9], Some(8));
+        owed.settle(settle);
+        shows(&rt, &owed, keys, from);
+    }
+}
+
+#[test]
 fn settles_are_told_apart(rt: HostRuntime) {
     let settles = [
         Settle::Nothing,

@@ -93,4 +93,5 @@ fn laws_can_be_called(rt: HostRuntime) {
     history_of_one_client_is_its_calls();
     no_debt_is_forgotten();
     no_debt_is_invented();
+    first_owed_is_owed();
 }
