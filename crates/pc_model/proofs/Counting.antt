@@ -84,7 +84,7 @@ slots-le-length (suc slots) xs each =
     let one : 1 ≤ count top xs = each top (omega arith, omega arith) in
     omega arith
 
-count_none : (n : ℕ) (t : Tree) → (IsIn n t → ⊥) → count n (nodes_of t) ≡ 0
+pub count_none : (n : ℕ) (t : Tree) → (IsIn n t → ⊥) → count n (nodes_of t) ≡ 0
 count_none n Empty out = refl
 count_none n (Fork m l r) out =
     let left : count n (nodes_of l) ≡ 0 = count_none n l (λ i. out (inr (inl i))) in
@@ -93,7 +93,7 @@ count_none n (Fork m l r) out =
     let whole : count n (nodes_of l ++ (m ∷ nodes_of r)) ≡ count n (nodes_of l) + count n (m ∷ nodes_of r) = count-append n (nodes_of l) (m ∷ nodes_of r) in
     whole ∙ (let e : count n (nodes_of l) + count n (m ∷ nodes_of r) ≡ 0 = omega arith in e)
 
-count_some : (n : ℕ) (t : Tree) → IsIn n t → 1 ≤ count n (nodes_of t)
+pub count_some : (n : ℕ) (t : Tree) → IsIn n t → 1 ≤ count n (nodes_of t)
 count_some n Empty i = absurd i
 count_some n (Fork m l r) i =
     let whole : count n (nodes_of l ++ (m ∷ nodes_of r)) ≡ count n (nodes_of l) + count n (m ∷ nodes_of r) = count-append n (nodes_of l) (m ∷ nodes_of r) in
@@ -102,7 +102,7 @@ count_some n (Fork m l r) i =
     (λ j. ⊎_elim (λ a. let ih : 1 ≤ count n (nodes_of l) = count_some n l a in omega (arith, ih)) (λ a. let ih : 1 ≤ count n (nodes_of r) = count_some n r a in omega (arith, ih)) j) i in
     omega (arith, whole, sum)
 
-count_once : (c : Cells) (n : ℕ) (t : Tree) → IsRising (pairs_of c t) → count n (nodes_of t) ≤ 1
+pub count_once : (c : Cells) (n : ℕ) (t : Tree) → IsRising (pairs_of c t) → count n (nodes_of t) ≤ 1
 count_once c n Empty rising = omega arith
 count_once c n (Fork m l r) rising =
     let a : Apart c m l r = apart_from_rising c m l r rising in
@@ -119,7 +119,7 @@ count_once c n (Fork m l r) rising =
     (cases_eq n m) in
     omega (arith, whole, sum)
 
-in_counted : (n : ℕ) (t : Tree) → 0 < count n (nodes_of t) → IsIn n t
+pub in_counted : (n : ℕ) (t : Tree) → 0 < count n (nodes_of t) → IsIn n t
 in_counted n t some = ⊎_elim (λ i. i) (λ no. let z : count n (nodes_of t) ≡ 0 = count_none n t no in absurd (omega arith)) (is_in_or_not n t)
 
 pub length-nodes_of : (t : Tree) → length (nodes_of t) ≡ size_of t

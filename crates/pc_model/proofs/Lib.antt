@@ -9,6 +9,8 @@ pub mod Insertion
 pub mod Links
 pub mod MapLawProofs
 pub mod OrderedMaps
+pub mod Readings
+pub mod ReadingsWorked
 pub mod Removal
 pub mod Replaying
 pub mod Sides

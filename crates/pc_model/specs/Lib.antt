@@ -11,6 +11,8 @@ pub mod Forms
 pub mod History
 pub mod Map
 pub mod MapLaws
+pub mod ReadingLaws
+pub mod Readings
 pub mod Replay
 pub mod Sides
 pub mod TreeForms

@@ -2,6 +2,7 @@
 ghost use Rattle.pc_model.specs.DebtLaws.{FirstOwedIsOwed, NoDebtIsForgotten, NoDebtIsInvented};
 ghost use Rattle.pc_model.specs.EntryLaws.{GoesInParts, IsItsCallsInOrder};
 ghost use Rattle.pc_model.specs.MapLaws.{FindsNearest, IsFiniteMap};
+ghost use Rattle.pc_model.specs.ReadingLaws.{IsReadByTurns};
 
 /// The sorted list of pairs, with its calls, is std's finite map with the calls of the same names.
 pub fn sorted_map_is_finite_map()
@@ -46,4 +47,11 @@ pub fn no_debt_is_invented()
 /// comes first only where no key is listed, and exactly the keys from it up are owed.
 pub fn first_owed_is_owed()
     ensures { FirstOwedIsOwed }
+{}
+
+/// Cells are a search tree exactly where the tree that is read from the sentinel's left link, in as many
+/// turns as there are slots, is one: each slot in use stands in it once, and no other node. A link
+/// spells one tree at most, and more turns read the same tree.
+pub fn a_search_tree_is_read_by_turns()
+    ensures { IsReadByTurns }
 {}
