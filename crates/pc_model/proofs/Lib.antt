@@ -2,6 +2,7 @@ pub mod Counting
 pub mod DebtLists
 pub mod DebtReasons
 pub mod Framing
+pub mod Heights
 pub mod Histories
 pub mod HolePairs
 pub mod Holes

@@ -8,11 +8,13 @@ use Rattle.pc_model.specs.Cells.{Cells, IsSlot}
 use Rattle.pc_model.specs.Counts.{count}
 use Rattle.pc_model.specs.Trees.{Tree, Empty, Fork, Kind, IsTreeNode, Spells, IsIn, size_of, nodes_of, pairs_of}
 use Rattle.pc_model.specs.Trees.{IsSearchTree}
+use Rattle.pc_model.specs.Heights.{height_of}
 use Rattle.pc_model.specs.Readings.{forked, read_tree, IsInUse, AreOfKind, IsReadSearchTree}
 use Rattle.pc_model.specs.ReadingLaws.{IsReadByTurns}
 use Rattle.pc_model.proofs.Framing.{slot_in, unmarked_in}
 use Rattle.pc_model.proofs.Counting.{count_none, count_some, count_once, in_counted}
 use Rattle.pc_model.proofs.Soundness.{search_tree_size}
+use Rattle.pc_model.proofs.Heights.{height-le-size}
 
 -- Forks
 
@@ -46,6 +48,19 @@ more_turns (suc turns) (suc more) c (suc n) t le read =
     let right : read_tree more c (c (suc n) Right) ≡ Some fork.right =
     more_turns turns more c (c (suc n) Right) fork.right (omega arith) fork.read_right in
     forked-is (suc n) _ _ fork.left fork.right left right ∙ ap Some (sym fork.fork)
+
+-- what is read is no higher than there are turns
+height-le-turns : (turns : ℕ) (c : Cells) (link : ℕ) (t : Tree) → read_tree turns c link ≡ Some t → height_of t ≤ turns
+height-le-turns turns c zero Empty read = omega arith
+height-le-turns turns c zero (Fork n l r) read = absurd cc
+height-le-turns zero c (suc n) t read = absurd cc
+height-le-turns (suc turns) c (suc n) t read =
+    let fork = fork_of (suc n) (read_tree turns c (c (suc n) Left)) (read_tree turns c (c (suc n) Right)) t read in
+    let left : height_of fork.left ≤ turns =
+    height-le-turns turns c (c (suc n) Left) fork.left fork.read_left in
+    let right : height_of fork.right ≤ turns =
+    height-le-turns turns c (c (suc n) Right) fork.right fork.read_right in
+    rw fork.fork (omega arith)
 
 -- Spelled trees, and what is read
 
@@ -85,15 +100,15 @@ in_use_or_not slots c n = ⊎_elim
     (cases_lt n 2)
 
 module _ (kind : Kind) (slots : ℕ) (c : Cells) where
-  -- a spelled tree is read in as many turns as it has nodes
-  pub read_spelled : (turns : ℕ) (t : Tree) (above link : ℕ)
-      → Spells kind slots c t above link → size_of t ≤ turns → read_tree turns c link ≡ Some t
-  read_spelled turns Empty above link s le = rw s refl
-  read_spelled zero (Fork n l r) above link s le = absurd (omega arith)
-  read_spelled (suc turns) (Fork n l r) above link s le =
+  -- a spelled tree is read in as many turns as it is high
+  pub read_spelled : (t : Tree) (above link turns : ℕ)
+      → Spells kind slots c t above link → height_of t ≤ turns → read_tree turns c link ≡ Some t
+  read_spelled Empty above link turns s le = rw s refl
+  read_spelled (Fork n l r) above link zero s le = absurd (omega arith)
+  read_spelled (Fork n l r) above link (suc turns) s le =
       let slot : IsSlot slots n = s.1.slot in
-      let left : read_tree turns c (c n Left) ≡ Some l = read_spelled turns l n (c n Left) s.2 (omega arith) in
-      let right : read_tree turns c (c n Right) ≡ Some r = read_spelled turns r n (c n Right) s.3 (omega arith) in
+      let left : read_tree turns c (c n Left) ≡ Some l = read_spelled l n (c n Left) turns s.2 (omega arith) in
+      let right : read_tree turns c (c n Right) ≡ Some r = read_spelled r n (c n Right) turns s.3 (omega arith) in
       rw s.0 (read_node turns c n l r (omega arith) left right)
 
   of_kind_spelled : (t : Tree) (above link : ℕ) → Spells kind slots c t above link → AreOfKind kind c t above
@@ -128,13 +143,14 @@ module _ (kind : Kind) (slots : ℕ) (c : Cells) where
   read_of_search ps s =
       let rising : IsRising (pairs_of c s.tree) = subst IsRising (sym s.pairs) s.rising in
       let few : size_of s.tree ≤ slots = search_tree_size kind slots c ps s in
+      let low : height_of s.tree ≤ size_of s.tree = height-le-size s.tree in
       let in_use : (n : ℕ) → IsIn n s.tree → IsInUse slots c n = λ n i. (
         slot_in kind slots c s.tree 1 (c 1 Left) n s.spelled i,
         unmarked_in kind slots c s.tree 1 (c 1 Left) n s.spelled i,
       ) in
       record {
         tree = s.tree;
-        read = read_spelled slots s.tree 1 (c 1 Left) s.spelled few;
+        read = read_spelled s.tree 1 (c 1 Left) slots s.spelled (omega arith);
         once = λ n u. let most : count n (nodes_of s.tree) ≤ 1 = count_once c n s.tree rising in
             let least : 1 ≤ count n (nodes_of s.tree) = count_some n s.tree (s.covered n u.0 u.1) in omega arith;
         no_other = λ n out. count_none n s.tree (λ i. out (in_use n i));
@@ -174,4 +190,6 @@ is_read_by_turns = record {
   one_tree = one_tree;
   one_list = one_list;
   more_turns = more_turns;
+  as_high_as_turns = λ kind slots c t above link turns s.
+      (height-le-turns turns c link t, read_spelled kind slots c t above link turns s);
 }

@@ -8,6 +8,8 @@ pub mod Exchanges
 pub mod FirstWrong
 pub mod FormLaws
 pub mod Forms
+pub mod HeightLaws
+pub mod Heights
 pub mod History
 pub mod Map
 pub mod MapLaws

@@ -1,8 +1,10 @@
--- A search tree of cells is what is read from them by turns, and there is no other.
+-- A search tree of cells is what is read from them by turns, there is no other, and it is as high as the
+-- turns that reading it takes.
 use Rattle.std.specs.Prelude.{◌≡◌, ℕ, ◌≤◌, ◌↔◌, Some}
 use Rattle.pc_model.specs.Map.{Pairs}
 use Rattle.pc_model.specs.Cells.{Cells}
 use Rattle.pc_model.specs.Trees.{Tree, Kind, Spells, IsSearchTree}
+use Rattle.pc_model.specs.Heights.{height_of}
 use Rattle.pc_model.specs.Readings.{read_tree, IsReadSearchTree}
 
 pub record IsReadByTurns : Type 0 where
@@ -14,3 +16,5 @@ pub record IsReadByTurns : Type 0 where
       → IsSearchTree kind slots c ps → IsSearchTree kind' slots' c ps' → ps ≡ ps'
   pub more_turns : (turns more : ℕ) (c : Cells) (link : ℕ) (t : Tree)
       → turns ≤ more → read_tree turns c link ≡ Some t → read_tree more c link ≡ Some t
+  pub as_high_as_turns : (kind : Kind) (slots : ℕ) (c : Cells) (t : Tree) (above link turns : ℕ)
+      → Spells kind slots c t above link → (read_tree turns c link ≡ Some t) ↔ (height_of t ≤ turns)

@@ -1,6 +1,7 @@
 //! The laws of the definitions, each on a function with no code.
 ghost use Rattle.pc_model.specs.DebtLaws.{FirstOwedIsOwed, NoDebtIsForgotten, NoDebtIsInvented};
 ghost use Rattle.pc_model.specs.EntryLaws.{GoesInParts, IsItsCallsInOrder};
+ghost use Rattle.pc_model.specs.HeightLaws.{IsBalancedWithoutDebts};
 ghost use Rattle.pc_model.specs.MapLaws.{FindsNearest, IsFiniteMap};
 ghost use Rattle.pc_model.specs.ReadingLaws.{IsReadByTurns};
 
@@ -51,7 +52,13 @@ pub fn first_owed_is_owed()
 
 /// Cells are a search tree exactly where the tree that is read from the sentinel's left link, in as many
 /// turns as there are slots, is one: each slot in use stands in it once, and no other node. A link
-/// spells one tree at most, and more turns read the same tree.
+/// spells one tree at most. More turns read the same tree, which is as high as the turns that it takes.
 pub fn a_search_tree_is_read_by_turns()
     ensures { IsReadByTurns }
+{}
+
+/// In a balanced search tree no key is in debt exactly where each node stores its true height and the
+/// heights of its two sides differ by at most one. Such a tree of height 2k has at least 2^k - 1 nodes.
+pub fn a_tree_without_debts_is_balanced()
+    ensures { IsBalancedWithoutDebts }
 {}

@@ -19,8 +19,8 @@ pub use call::{Call, Entry, Memory, Reply};
 pub use cell::{Counter, Field, Side};
 pub use first_wrong::{Wrong, replay};
 pub use laws::{
-    a_search_tree_is_read_by_turns, ceil_and_floor_are_nearest, first_owed_is_owed,
-    history_of_one_client_is_its_calls, no_debt_is_forgotten, no_debt_is_invented,
-    replay_goes_in_parts, sorted_map_is_finite_map,
+    a_search_tree_is_read_by_turns, a_tree_without_debts_is_balanced, ceil_and_floor_are_nearest,
+    first_owed_is_owed, history_of_one_client_is_its_calls, no_debt_is_forgotten,
+    no_debt_is_invented, replay_goes_in_parts, sorted_map_is_finite_map,
 };
 pub use owed::{Owed, Owing, Settle};

@@ -95,4 +95,5 @@ fn laws_can_be_called(rt: HostRuntime) {
     no_debt_is_invented();
     first_owed_is_owed();
     a_search_tree_is_read_by_turns();
+    a_tree_without_debts_is_balanced();
 }
