@@ -1,4 +1,4 @@
--- What is read from cells by turns: a spelled tree in as many turns as it has nodes, and only such a tree.
+-- What is read from cells by turns: a spelled tree in as many turns as it is high, and only such a tree.
 use Rattle.std.proofs.Common.{◌≡◌, ℕ, zero, suc, ◌+◌, ◌%◌, ◌≤◌, ◌⊎◌, inl, inr, ⊎_elim, Option, Some, None}
 use Rattle.std.proofs.Common.{refl, sym, ap, ◌∙◌, subst, arith}
 use Rattle.std.proofs.lemmas.Bool.{cases_eq, cases_lt}
