@@ -4,3 +4,6 @@ pub mod Gets
 pub mod PutEnds
 pub mod PutLaws
 pub mod Puts
+pub mod RemoveEnds
+pub mod RemoveLaws
+pub mod Removes

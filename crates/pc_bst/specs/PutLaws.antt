@@ -73,8 +73,16 @@ module _ (slots : ℕ) (c : Cells) (ps : Pairs) (call : ℕ × ℕ) (ready : IsR
       let next : walked w (Here (c n KeyField)) ≡ reading
       = cond-true (c n KeyField == k) reading (put_at (on_way w (c n KeyField)) call.1 Walking, AskRead n (way w (c n KeyField))) (eq-eqb (c n KeyField) k (sym e)) in
       let past1 : List Event = found n ValueField (c n ValueField) ∷ past in
-      subst (Goes 1 past) (sym next) ((omega arith, omega arith), ((sym (ap was_or_new there),
-      λ slot takes. value_end slots c ps k call.1 tree pair.0 pair.1 q s past1 slot w.above n l r h (sym e)), tt)))
+      subst (Goes 1 past) (sym next) (
+        (omega arith, omega arith),
+        (
+          (
+            sym (ap was_or_new there),
+            λ slot takes. value_end slots c ps k call.1 tree pair.0 pair.1 q s past1 slot w.above n l r h (sym e),
+          ),
+          tt,
+        ),
+      ))
       (λ q s a h past.
       let missing : value_at k ps ≡ None = value_at-empty_hole plain slots c ps tree.tree k q (link_of s) h in
       ((sym (ap was_or_new missing), λ slot takes. leaf_end slots c ps k call.1 tree pair.0 pair.1 q s past slot a h takes.0 takes.1), tt))

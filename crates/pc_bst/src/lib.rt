@@ -5,6 +5,8 @@
 
 mod get;
 mod put;
+mod remove;
 
 pub use get::BstGet;
 pub use put::BstPut;
+pub use remove::BstRemove;
