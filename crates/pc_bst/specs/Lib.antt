@@ -4,6 +4,7 @@ pub mod Gets
 pub mod PutEnds
 pub mod PutLaws
 pub mod Puts
+pub mod RemoveCourses
 pub mod RemoveEnds
 pub mod RemoveLaws
 pub mod Removes
