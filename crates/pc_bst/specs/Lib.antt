@@ -6,5 +6,6 @@ pub mod PutLaws
 pub mod Puts
 pub mod RemoveCourses
 pub mod RemoveEnds
+pub mod RemoveLawful
 pub mod RemoveLaws
 pub mod Removes

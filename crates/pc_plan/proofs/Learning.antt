@@ -1,17 +1,18 @@
 -- What a plan has learned after one thing more, and how its law whatever it is told is proved: a fact
 -- about its state, its ask and what it learned that each step keeps holds along every trace.
-use Rattle.std.proofs.Common.{◌≡◌, ◌≢◌, ℕ, ◌==◌, inl, inr, if◌then◌else◌, List, [], ◌∷◌, Some, None, refl, ap, ◌∙◌}
+use Rattle.std.proofs.Common.{◌≡◌, ◌≢◌, ℕ, ◌==◌, ⊎_elim, inl, inr, if◌then◌else◌, List, [], ◌∷◌, Option, Some, None, refl, sym, ap, ◌∙◌, subst}
 use Rattle.std.specs.Prelude.{IsSome, is_some}
-use Rattle.std.proofs.lemmas.Bool.{eq-eqb, ne_eqb, cond-true, cond-false}
+use Rattle.std.proofs.lemmas.Bool.{cases_Bool, eq-eqb, eqb-true, ne_eqb, cond-true, cond-false}
 use Rattle.pc_model.specs.declared.cell.Field.{Field}
 use Rattle.pc_model.specs.Cells.{field_number}
+use Rattle.pc_model.proofs.Writes.{same_field}
 use Rattle.pc_plan.specs.declared.plan.Ask.{Ask}
 use Rattle.pc_plan.specs.declared.plan.Told.{Told}
 use Rattle.pc_plan.specs.Traces.{Event, visited, found, learned, after, learned_along, version_seen, number_seen}
 use Rattle.pc_model.specs.declared.cell.Side.{Side}
 use Rattle.pc_model.specs.declared.cell.Side.TheVariants.{Left, Right}
 use Rattle.pc_model.specs.Sides.{link_of}
-use Rattle.pc_plan.specs.Lawful.{IsWord, AreWords, IsLink}
+use Rattle.pc_plan.specs.Lawful.{IsWord, AreWords, IsLink, WasToldOf}
 
 -- what each step keeps holds at the end of each trace
 module _ {P : Type 0} (moves : P → Told → P × Ask) (Keeps : List Event → P × Ask → Type 0)
@@ -47,3 +48,24 @@ is_some-seen n v past e = ap is_some e
 pub side_is_link : (s : Side) → IsLink (link_of s)
 side_is_link Left = inl refl
 side_is_link Right = inr (inl refl)
+
+-- a node that a link was found to name was told of
+pub was_told-seen : (n : ℕ) (f : Field) (x : ℕ) (past : List Event) → IsLink f → number_seen n f past ≡ Some x → WasToldOf x past
+was_told-seen n f x [] link e = absurd (cc)
+was_told-seen n f x (visited m v ∷ past) link e = ⊎_elim
+    (λ same. let none : number_seen n f (visited m v ∷ past) ≡ None = cond-true (m == n) None (number_seen n f past) same in absurd (cc))
+    (λ other. was_told-seen n f x past link (sym (cond-false (m == n) None (number_seen n f past) other) ∙ e))
+    (cases_Bool (m == n))
+was_told-seen n f x (found m g y ∷ past) link e =
+    let here : Option ℕ = if field_number g == field_number f then Some y else number_seen n f past in
+    let earlier : Option ℕ = number_seen n f past in
+    ⊎_elim
+    (λ same. let at_node : number_seen n f (found m g y ∷ past) ≡ (if field_number g == field_number f then Some y else earlier) = cond-true (m == n) (if field_number g == field_number f then Some y else earlier) earlier same in
+    ⊎_elim
+    (λ field. let is : Some y ≡ Some x = sym (cond-true (field_number g == field_number f) (Some y) earlier field) ∙ sym at_node ∙ e in
+    let same_number : y ≡ x = cc in
+    inl (subst IsLink (sym (same_field g f (eqb-true (field_number g) (field_number f) field))) link, same_number))
+    (λ other. inr (was_told-seen n f x past link (sym (cond-false (field_number g == field_number f) (Some y) earlier other) ∙ sym at_node ∙ e)))
+    (cases_Bool (field_number g == field_number f)))
+    (λ other. inr (was_told-seen n f x past link (sym (cond-false (m == n) (if field_number g == field_number f then Some y else earlier) earlier other) ∙ e)))
+    (cases_Bool (m == n))
