@@ -36,7 +36,7 @@ use Rattle.pc_plan.proofs.WalkLawful.{StepStands, Waits, walk_stands, waits_lawf
 use Rattle.pc_bst.specs.declared.get.GetPhase.{GetPhase}
 use Rattle.pc_bst.specs.declared.get.GetPhase.TheVariants.{Walking, Reading, Ended}
 use Rattle.pc_bst.specs.declared.get.BstGet.{BstGet}
-use Rattle.pc_bst.specs.Ends.{IsAnswer}
+use Rattle.pc_plan.specs.EndLaws.{IsAnswer}
 use Rattle.pc_bst.specs.Gets.{get_at, get_of, get_walked, get_told, get_moves}
 
 -- On sound cells: the course of a get, which ends in a right answer.

@@ -1,4 +1,3 @@
-pub mod Ends
 pub mod GetLaws
 pub mod Gets
 pub mod PutEnds

@@ -34,7 +34,7 @@ use Rattle.pc_plan.proofs.WalkLawful.{HasCome, StepStands, Waits, walk_stands, w
 use Rattle.pc_bst.specs.declared.put.PutPhase.{PutPhase}
 use Rattle.pc_bst.specs.declared.put.PutPhase.TheVariants.{Walking, Reading, Ended}
 use Rattle.pc_bst.specs.declared.put.BstPut.{BstPut}
-use Rattle.pc_bst.specs.Ends.{IsChange}
+use Rattle.pc_plan.specs.EndLaws.{IsChange}
 use Rattle.pc_bst.specs.Puts.{value_changed, leaf_added, put_at, put_of, put_gives_up, put_walked, put_told, put_moves}
 use Rattle.pc_bst.specs.PutEnds.{link_field, value_end, leaf_end}
 

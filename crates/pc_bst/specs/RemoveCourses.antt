@@ -39,7 +39,7 @@ use Rattle.pc_bst.specs.declared.remove.RemovePhase.{RemovePhase}
 use Rattle.pc_bst.specs.declared.remove.RemovePhase.TheVariants.{Walking, ReadingLeft, ReadingValue, Visiting, ReadingNext, ReadingNextKey}
 use Rattle.pc_bst.specs.declared.remove.Next.{Next}
 use Rattle.pc_bst.specs.declared.remove.BstRemove.{BstRemove}
-use Rattle.pc_bst.specs.Ends.{IsChange}
+use Rattle.pc_plan.specs.EndLaws.{IsChange}
 use Rattle.pc_bst.specs.Removes.{nothing_next, remove_of, with_walk, remove_reads, remove_gives_up, remove_ends, unlinked, visiting_below, going_below, chosen, following, remove_walked, remove_moves}
 use Rattle.pc_bst.specs.RemoveEnds.{unlink_end, lift_end}
 

@@ -171,12 +171,15 @@ lift_lawful past r right h key value fits =
           told = ((h.0.key, key, λ e. absurd (cc)), ((h.0.old_value, value, λ e. absurd (cc)), tt));
           fields = (refl, (refl, tt));
         },
-        (record {
-          seen = h.1.by_link.seen;
-          small = h.1.by_link.small;
-          told = ((h.1.by_link.link, fits, λ e. absurd (cc)), tt);
-          fields = (link_field r.next.above.side, tt);
-        }, tt),
+        (
+          record {
+            seen = h.1.by_link.seen;
+            small = h.1.by_link.small;
+            told = ((h.1.by_link.link, fits, λ e. absurd (cc)), tt);
+            fields = (link_field r.next.above.side, tt);
+          },
+          tt,
+        ),
       );
       mark = (h.1.seen, h.1.small);
       different = (not_among t q (m ∷ []) (λ e. other (sym e)) (not_among t m [] not_t refl), (not_among q m [] (λ e. h.1.by_link.apart (sym e)) refl, (refl, tt)));
@@ -278,8 +281,7 @@ version_keeps past r a ReadingRight v word h = tt
 version_keeps past r a ReadingValue v word h = tt
 version_keeps past r a Visiting v word h =
     let n : ℕ = r.next.node in
-    told_for past r a (AskVisit n) Visiting (Version v) h.0
-    (
+    told_for past r a (AskVisit n) Visiting (Version v) h.0 (
       (refl, refl),
       (
         target_visit past r.walk r.value n v h.3 h.1,

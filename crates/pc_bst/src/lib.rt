@@ -4,9 +4,11 @@
 #![tactic(auto)]
 
 mod get;
+mod laws;
 mod put;
 mod remove;
 
 pub use get::BstGet;
+pub use laws::{plans_charge_nothing, plans_end_as_their_calls_do, plans_stand_for_their_calls};
 pub use put::BstPut;
 pub use remove::BstRemove;

@@ -1,4 +1,6 @@
 pub mod Asking
+pub mod CallLaws
+pub mod EndLaws
 pub mod Fitting
 pub mod Lawful
 pub mod Laws

@@ -1,0 +1,151 @@
+-- How the plans end, and that they charge nothing.
+use Rattle.std.proofs.Common.{◌≡◌, ℕ, ◌==◌, if◌then◌else◌, ◌⊎◌, ⊎_elim, true, false, List, [], ◌∷◌, Option, Some, None, refl, sym, ap, ◌∙◌, subst}
+use Rattle.std.specs.Prelude.{IsSome, is_some}
+use Rattle.std.proofs.lemmas.Bool.{cond_both}
+use Rattle.pc_model.specs.declared.cell.Field.TheVariants.{Key as KeyField, Value as ValueField, Left as LeftLink}
+use Rattle.pc_model.specs.Map.{Pairs, IsKey, IsPair, value_at}
+use Rattle.pc_model.specs.Cells.{Cells, node_at}
+use Rattle.pc_model.specs.Debts.{has}
+use Rattle.pc_model.specs.Trees.{plain}
+use Rattle.pc_model.specs.TreeForms.{tree_form}
+use Rattle.pc_plan.specs.declared.plan.Ask.{Ask}
+use Rattle.pc_plan.specs.declared.plan.Ask.TheVariants.{Visit as AskVisit, Read as AskRead, Change, Answer}
+use Rattle.pc_plan.specs.declared.plan.Told.{Told}
+use Rattle.pc_plan.specs.declared.plan.Told.TheVariants.{Begin, Version, Number}
+use Rattle.pc_plan.specs.declared.walk.Above.{Above}
+use Rattle.pc_plan.specs.declared.walk.Walk.{Walk}
+use Rattle.pc_plan.specs.declared.walk.Step.{Step}
+use Rattle.pc_plan.specs.declared.walk.Step.TheVariants.{Visit, Read, Here, Missing, Astray}
+use Rattle.pc_plan.specs.EndLaws.{IsAnswer, IsChange, EndsInChange, IsFree, ChargesNothing}
+use Rattle.pc_plan.specs.Walks.{on_way, way, walk_step}
+use Rattle.pc_plan.specs.Traces.{Event}
+use Rattle.pc_plan.specs.Runs.{reached, past_of}
+use Rattle.pc_plan.proofs.Courses.{IsOnCourse}
+use Rattle.pc_plan.proofs.Quiets.{asks_by_steps}
+use Rattle.pc_bst.specs.declared.put.PutPhase.{PutPhase}
+use Rattle.pc_bst.specs.declared.put.PutPhase.TheVariants.{Walking, Reading, Ended}
+use Rattle.pc_bst.specs.declared.put.BstPut.{BstPut}
+use Rattle.pc_bst.specs.declared.remove.RemovePhase.{RemovePhase}
+use Rattle.pc_bst.specs.declared.remove.RemovePhase.TheVariants.{Walking as Removing, ReadingLeft, ReadingRight, ReadingValue, Visiting, ReadingNext, ReadingNextKey, ReadingNextValue, ReadingNextRight, Ended as Gone}
+use Rattle.pc_bst.specs.declared.remove.BstRemove.{BstRemove}
+use Rattle.pc_bst.specs.Puts.{put_at, put_of, put_walked, put_told, put_moves}
+use Rattle.pc_bst.specs.PutLaws.{PutsRight, put_changes}
+use Rattle.pc_bst.specs.Removes.{remove_of, with_walk, with_value, remove_reads, remove_gives_up, visiting_below, going_below, chosen, following, remove_walked, remove_told, remove_moves}
+use Rattle.pc_bst.specs.RemoveCourses.{RemovesRight}
+use Rattle.pc_bst.specs.RemoveLaws.{remove_changes}
+
+put_never_answers : (slots : ℕ) (c : Cells) (ps : Pairs) (call : ℕ × ℕ) (past : List Event) (a : Ask)
+    → IsOnCourse slots c put_moves (PutsRight slots c ps call) past a → IsAnswer a → ⊥
+put_never_answers slots c ps call past (AskVisit n) h answers = answers
+put_never_answers slots c ps call past (AskRead n f) h answers = answers
+put_never_answers slots c ps call past (Change p) h answers = answers
+put_never_answers slots c ps call past (Answer r) h answers = h.1.1
+
+pub put_ends : EndsInChange put_of put_moves IsPair (tree_form plain) (λ call ps. Unit {0})
+put_ends slots c ps call ts ready pair such agrees answers =
+    put_never_answers slots c ps call (past_of put_of put_moves call ts) (reached put_of put_moves call ts).1 (put_changes slots c ps call ts ready pair agrees) answers
+
+not_both : (o : Option ℕ) → IsSome o → o ≡ None → ⊥
+not_both None some none = absurd (cc)
+not_both (Some x) some none = absurd (cc)
+
+remove_never_answers : (slots : ℕ) (c : Cells) (ps : Pairs) (k : ℕ) (past : List Event) (a : Ask)
+    → IsSome (value_at k ps) → IsOnCourse slots c remove_moves (RemovesRight slots c ps k) past a → IsAnswer a → ⊥
+remove_never_answers slots c ps k past (AskVisit n) some h answers = answers
+remove_never_answers slots c ps k past (AskRead n f) some h answers = answers
+remove_never_answers slots c ps k past (Change p) some h answers = answers
+remove_never_answers slots c ps k past (Answer r) some h answers = ⊎_elim (λ no. no) (λ none. not_both (value_at k ps) some none) h.1.1
+
+pub remove_ends_in_change : EndsInChange remove_of remove_moves IsKey (tree_form plain) (λ k ps. IsSome (value_at k ps))
+remove_ends_in_change slots c ps k ts ready key such agrees answers =
+    remove_never_answers slots c ps k (past_of remove_of remove_moves k ts) (reached remove_of remove_moves k ts).1 such (remove_changes slots c ps k ts ready key agrees) answers
+
+-- Nothing is charged.
+
+abbrev IsFreePut : BstPut × Ask → Type 0
+IsFreePut s = IsFree s.1
+
+put_walked_free : (p : BstPut) (w : Walk) (s : Step) → IsFreePut (put_walked p w s)
+put_walked_free p w (Visit n) = tt
+put_walked_free p w (Read n f) = tt
+put_walked_free p w (Here x) =
+    cond_both (x == w.key) (put_at w p.value Reading, AskRead w.node ValueField) (put_at (on_way w x) p.value p.phase, AskRead w.node (way w x)) IsFreePut (λ _. tt) (λ _. tt)
+put_walked_free p w (Missing s link) = refl
+put_walked_free p w Astray = tt
+
+put_told_free : (p : BstPut) (phase : PutPhase) (t : Told) → IsFreePut (put_told p phase t)
+put_told_free p Walking t = put_walked_free p (walk_step p.walk t).0 (walk_step p.walk t).1
+put_told_free p Reading Begin = tt
+put_told_free p Reading (Version v) = tt
+put_told_free p Reading (Number x) = refl
+put_told_free p Ended t = tt
+
+pub put_charges_nothing : ChargesNothing put_of put_moves IsPair
+put_charges_nothing call ts pair = asks_by_steps put_of put_moves IsFree (λ p t. put_told_free p p.phase t) call ts
+
+abbrev IsFreeRemove : BstRemove × Ask → Type 0
+IsFreeRemove s = IsFree s.1
+
+going_free : (r : BstRemove) (a : Above) (n : ℕ) → IsFreeRemove (going_below r a n)
+going_free r a n = cond_both (has n (r.walk.node ∷ a.node ∷ [])) (remove_gives_up r) (visiting_below r a n, AskVisit n) IsFreeRemove (λ _. tt) (λ _. tt)
+
+chosen_free : (r : BstRemove) (left right : Option ℕ) → IsFreeRemove (chosen r left right)
+chosen_free r None right = refl
+chosen_free r (Some l) None = refl
+chosen_free r (Some l) (Some n) = going_free r _ n
+
+following_free : (r : BstRemove) (o : Option ℕ) → IsFreeRemove (following r o)
+following_free r None = tt
+following_free r (Some n) = going_free r _ n
+
+remove_walked_free : (r : BstRemove) (w : Walk) (s : Step) → IsFreeRemove (remove_walked r w s)
+remove_walked_free r w (Visit n) = tt
+remove_walked_free r w (Read n f) = tt
+remove_walked_free r w (Here x) =
+    cond_both (x == w.key) (remove_reads (with_walk r w) ReadingLeft w.node LeftLink) (with_walk r (on_way w x), AskRead w.node (way w x)) IsFreeRemove (λ _. tt) (λ _. tt)
+remove_walked_free r w (Missing s link) = tt
+remove_walked_free r w Astray = tt
+
+remove_number_free : (r : BstRemove) (phase : RemovePhase) (x : ℕ) → IsFreeRemove (remove_told r phase (Number x))
+remove_number_free r Removing x = remove_walked_free r (walk_step r.walk (Number x)).0 (walk_step r.walk (Number x)).1
+remove_number_free r ReadingLeft x = tt
+remove_number_free r ReadingRight x = tt
+remove_number_free r ReadingValue x = chosen_free (with_value r x) (node_at r.left) (node_at r.right)
+remove_number_free r Visiting x = tt
+remove_number_free r ReadingNext x = following_free r (node_at x)
+remove_number_free r ReadingNextKey x = tt
+remove_number_free r ReadingNextValue x = tt
+remove_number_free r ReadingNextRight x = refl
+remove_number_free r Gone x = tt
+
+remove_version_free : (r : BstRemove) (phase : RemovePhase) (v : ℕ) → IsFreeRemove (remove_told r phase (Version v))
+remove_version_free r Removing v = remove_walked_free r (walk_step r.walk (Version v)).0 (walk_step r.walk (Version v)).1
+remove_version_free r ReadingLeft v = tt
+remove_version_free r ReadingRight v = tt
+remove_version_free r ReadingValue v = tt
+remove_version_free r Visiting v = tt
+remove_version_free r ReadingNext v = tt
+remove_version_free r ReadingNextKey v = tt
+remove_version_free r ReadingNextValue v = tt
+remove_version_free r ReadingNextRight v = tt
+remove_version_free r Gone v = tt
+
+remove_begin_free : (r : BstRemove) (phase : RemovePhase) → IsFreeRemove (remove_told r phase Begin)
+remove_begin_free r Removing = remove_walked_free r (walk_step r.walk Begin).0 (walk_step r.walk Begin).1
+remove_begin_free r ReadingLeft = tt
+remove_begin_free r ReadingRight = tt
+remove_begin_free r ReadingValue = tt
+remove_begin_free r Visiting = tt
+remove_begin_free r ReadingNext = tt
+remove_begin_free r ReadingNextKey = tt
+remove_begin_free r ReadingNextValue = tt
+remove_begin_free r ReadingNextRight = tt
+remove_begin_free r Gone = tt
+
+remove_free : (r : BstRemove) (t : Told) → IsFree (remove_moves r t).1
+remove_free r Begin = remove_begin_free r r.phase
+remove_free r (Version v) = remove_version_free r r.phase v
+remove_free r (Number x) = remove_number_free r r.phase x
+
+pub remove_charges_nothing : ChargesNothing remove_of remove_moves IsKey
+remove_charges_nothing k ts key = asks_by_steps remove_of remove_moves IsFree remove_free k ts
