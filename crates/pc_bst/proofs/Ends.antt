@@ -1,5 +1,6 @@
 -- How the plans end, and that they charge nothing.
-use Rattle.std.proofs.Common.{◌≡◌, ℕ, ◌==◌, if◌then◌else◌, ◌⊎◌, ⊎_elim, true, false, List, [], ◌∷◌, Option, Some, None, refl, sym, ap, ◌∙◌, subst}
+use Rattle.std.proofs.Common.{◌≡◌, ℕ, ◌==◌, if◌then◌else◌, ◌⊎◌, ⊎_elim, true, false, List, [], ◌∷◌, Option, Some, None}
+use Rattle.std.proofs.Common.{refl, sym, ap, ◌∙◌, subst}
 use Rattle.std.specs.Prelude.{IsSome, is_some}
 use Rattle.std.proofs.lemmas.Bool.{cond_both}
 use Rattle.pc_model.specs.declared.cell.Field.TheVariants.{Key as KeyField, Value as ValueField, Left as LeftLink}
@@ -26,11 +27,14 @@ use Rattle.pc_bst.specs.declared.put.PutPhase.{PutPhase}
 use Rattle.pc_bst.specs.declared.put.PutPhase.TheVariants.{Walking, Reading, Ended}
 use Rattle.pc_bst.specs.declared.put.BstPut.{BstPut}
 use Rattle.pc_bst.specs.declared.remove.RemovePhase.{RemovePhase}
-use Rattle.pc_bst.specs.declared.remove.RemovePhase.TheVariants.{Walking as Removing, ReadingLeft, ReadingRight, ReadingValue, Visiting, ReadingNext, ReadingNextKey, ReadingNextValue, ReadingNextRight, Ended as Gone}
+use Rattle.pc_bst.specs.declared.remove.RemovePhase.TheVariants.{Walking as Removing, ReadingLeft, ReadingRight}
+use Rattle.pc_bst.specs.declared.remove.RemovePhase.TheVariants.{ReadingValue, Visiting, ReadingNext, ReadingNextKey}
+use Rattle.pc_bst.specs.declared.remove.RemovePhase.TheVariants.{ReadingNextValue, ReadingNextRight, Ended as Gone}
 use Rattle.pc_bst.specs.declared.remove.BstRemove.{BstRemove}
 use Rattle.pc_bst.specs.Puts.{put_at, put_of, put_walked, put_told, put_moves}
 use Rattle.pc_bst.specs.PutLaws.{PutsRight, put_changes}
-use Rattle.pc_bst.specs.Removes.{remove_of, with_walk, with_value, remove_reads, remove_gives_up, visiting_below, going_below, chosen, following, remove_walked, remove_told, remove_moves}
+use Rattle.pc_bst.specs.Removes.{remove_of, with_walk, with_value, remove_reads, remove_gives_up, visiting_below}
+use Rattle.pc_bst.specs.Removes.{going_below, chosen, following, remove_walked, remove_told, remove_moves}
 use Rattle.pc_bst.specs.RemoveCourses.{RemovesRight}
 use Rattle.pc_bst.specs.RemoveLaws.{remove_changes}
 
@@ -43,7 +47,8 @@ put_never_answers slots c ps call past (Answer r) h answers = h.1.1
 
 pub put_ends : EndsInChange put_of put_moves IsPair (tree_form plain) (λ call ps. Unit {0})
 put_ends slots c ps call ts ready pair such agrees answers =
-    put_never_answers slots c ps call (past_of put_of put_moves call ts) (reached put_of put_moves call ts).1 (put_changes slots c ps call ts ready pair agrees) answers
+    put_never_answers slots c ps call (past_of put_of put_moves call ts) (reached put_of put_moves call ts).1
+    (put_changes slots c ps call ts ready pair agrees) answers
 
 not_both : (o : Option ℕ) → IsSome o → o ≡ None → ⊥
 not_both None some none = absurd (cc)
@@ -54,11 +59,14 @@ remove_never_answers : (slots : ℕ) (c : Cells) (ps : Pairs) (k : ℕ) (past : 
 remove_never_answers slots c ps k past (AskVisit n) some h answers = answers
 remove_never_answers slots c ps k past (AskRead n f) some h answers = answers
 remove_never_answers slots c ps k past (Change p) some h answers = answers
-remove_never_answers slots c ps k past (Answer r) some h answers = ⊎_elim (λ no. no) (λ none. not_both (value_at k ps) some none) h.1.1
+remove_never_answers slots c ps k past (Answer r) some h answers = ⊎_elim (λ no. no) (λ none. not_both (value_at k ps)
+    some none) h.1.1
 
-pub remove_ends_in_change : EndsInChange remove_of remove_moves IsKey (tree_form plain) (λ k ps. IsSome (value_at k ps))
+pub remove_ends_in_change : EndsInChange remove_of remove_moves IsKey (tree_form plain) (λ k ps. IsSome
+    (value_at k ps))
 remove_ends_in_change slots c ps k ts ready key such agrees answers =
-    remove_never_answers slots c ps k (past_of remove_of remove_moves k ts) (reached remove_of remove_moves k ts).1 such (remove_changes slots c ps k ts ready key agrees) answers
+    remove_never_answers slots c ps k (past_of remove_of remove_moves k ts) (reached remove_of remove_moves k ts).1
+    such (remove_changes slots c ps k ts ready key agrees) answers
 
 -- Nothing is charged.
 
@@ -69,7 +77,10 @@ put_walked_free : (p : BstPut) (w : Walk) (s : Step) → IsFreePut (put_walked p
 put_walked_free p w (Visit n) = tt
 put_walked_free p w (Read n f) = tt
 put_walked_free p w (Here x) =
-    cond_both (x == w.key) (put_at w p.value Reading, AskRead w.node ValueField) (put_at (on_way w x) p.value p.phase, AskRead w.node (way w x)) IsFreePut (λ _. tt) (λ _. tt)
+    cond_both (x == w.key) (put_at w p.value Reading, AskRead w.node ValueField) (
+      put_at (on_way w x) p.value p.phase,
+      AskRead w.node (way w x),
+    ) IsFreePut (λ _. tt) (λ _. tt)
 put_walked_free p w (Missing s link) = refl
 put_walked_free p w Astray = tt
 
@@ -87,7 +98,8 @@ abbrev IsFreeRemove : BstRemove × Ask → Type 0
 IsFreeRemove s = IsFree s.1
 
 going_free : (r : BstRemove) (a : Above) (n : ℕ) → IsFreeRemove (going_below r a n)
-going_free r a n = cond_both (has n (r.walk.node ∷ a.node ∷ [])) (remove_gives_up r) (visiting_below r a n, AskVisit n) IsFreeRemove (λ _. tt) (λ _. tt)
+going_free r a n = cond_both (has n (r.walk.node ∷ a.node ∷ [])) (remove_gives_up r) (visiting_below r a n, AskVisit n)
+    IsFreeRemove (λ _. tt) (λ _. tt)
 
 chosen_free : (r : BstRemove) (left right : Option ℕ) → IsFreeRemove (chosen r left right)
 chosen_free r None right = refl
@@ -102,7 +114,10 @@ remove_walked_free : (r : BstRemove) (w : Walk) (s : Step) → IsFreeRemove (rem
 remove_walked_free r w (Visit n) = tt
 remove_walked_free r w (Read n f) = tt
 remove_walked_free r w (Here x) =
-    cond_both (x == w.key) (remove_reads (with_walk r w) ReadingLeft w.node LeftLink) (with_walk r (on_way w x), AskRead w.node (way w x)) IsFreeRemove (λ _. tt) (λ _. tt)
+    cond_both (x == w.key) (remove_reads (with_walk r w) ReadingLeft w.node LeftLink) (
+      with_walk r (on_way w x),
+      AskRead w.node (way w x),
+    ) IsFreeRemove (λ _. tt) (λ _. tt)
 remove_walked_free r w (Missing s link) = tt
 remove_walked_free r w Astray = tt
 
@@ -119,7 +134,8 @@ remove_number_free r ReadingNextRight x = refl
 remove_number_free r Gone x = tt
 
 remove_version_free : (r : BstRemove) (phase : RemovePhase) (v : ℕ) → IsFreeRemove (remove_told r phase (Version v))
-remove_version_free r Removing v = remove_walked_free r (walk_step r.walk (Version v)).0 (walk_step r.walk (Version v)).1
+remove_version_free r Removing v = remove_walked_free r (walk_step r.walk (Version v)).0 (walk_step r.walk
+    (Version v)).1
 remove_version_free r ReadingLeft v = tt
 remove_version_free r ReadingRight v = tt
 remove_version_free r ReadingValue v = tt

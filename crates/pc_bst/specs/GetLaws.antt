@@ -1,5 +1,6 @@
 -- The laws of a get: its course on sound cells, and what it keeps whatever it is told.
-use Rattle.std.proofs.Common.{◌≡◌, ℕ, ◌+◌, ◌*◌, ◌<◌, ◌≤◌, ◌==◌, if◌then◌else◌, inl, ⊎_elim, List, [], ◌∷◌, Some, None, refl, sym, ap, ◌∙◌, subst, arith}
+use Rattle.std.proofs.Common.{◌≡◌, ℕ, ◌+◌, ◌*◌, ◌<◌, ◌≤◌, ◌==◌, if◌then◌else◌, inl, ⊎_elim, List, [], ◌∷◌, Some, None}
+use Rattle.std.proofs.Common.{refl, sym, ap, ◌∙◌, subst, arith}
 use Rattle.std.proofs.lemmas.Bool.{eq-eqb, ne_eqb, cases_Bool, cond-true, cond-false}
 use Rattle.pc_model.specs.declared.cell.Field.TheVariants.{Value as ValueField}
 use Rattle.pc_model.specs.declared.cell.Side.{Side}
@@ -57,19 +58,30 @@ module _ (slots : ℕ) (c : Cells) (ps : Pairs) (k : ℕ) (ready : IsReady (tree
   abbrev walked : Walk → Step → BstGet × Ask
   walked w s = get_walked (get_at w Walking) w s
 
-  get_course : Course slots c get_moves (GetsRight slots c ps k) (get_moves (get_of k) Begin).1 (6 * slots + (1 + 3)) [] (get_moves (get_of k) Begin).0
-  get_course = walk_to_key slots c plain ps ready.few tree k get_moves (GetsRight slots c ps k) (λ w. get_at w Walking) walked
+  get_course : Course slots c get_moves (GetsRight slots c ps k) (get_moves (get_of k) Begin).1 (6 * slots + (1 + 3))
+      [] (get_moves (get_of k) Begin).0
+  get_course = walk_to_key slots c plain ps ready.few tree k get_moves (GetsRight slots c ps k) (λ w. get_at w Walking)
+      walked
       (λ w t. refl) (λ w n. refl) (λ w n f. refl)
-      (λ w x ne. cond-false (x == w.key) (get_at w Reading, AskRead w.node ValueField) (get_at (on_way w x) Walking, AskRead w.node (way w x)) (ne_eqb x w.key (λ e. ne (sym e))))
+      (λ w x ne. cond-false (x == w.key) (get_at w Reading, AskRead w.node ValueField) (
+        get_at (on_way w x) Walking,
+        AskRead w.node (way w x),
+      ) (ne_eqb x w.key (λ e. ne (sym e))))
       1
       (λ q s n l r h e past unseen_l unseen_r.
-      let w : Walk = walk_at slots c plain ps ready.few tree k (left_node slots c plain ps ready.few tree k q s) n Choice in
+      let w : Walk = walk_at slots c plain ps ready.few tree k (left_node slots c plain ps ready.few tree k q s) n
+      Choice in
       let node : IsTreeNode plain slots c q n = h.spelled.1 in
       let slot : IsSlot slots n = node.slot in
-      let found : value_at k ps ≡ Some (c n ValueField) = value_at-hole plain slots c ps tree.tree k q (link_of s) n l r tree.rising h (sym e) in
+      let found : value_at k ps ≡ Some (c n ValueField) = value_at-hole plain slots c ps tree.tree k q (link_of s) n l
+      r tree.rising h (sym e) in
       let reading : BstGet × Ask = (get_at w Reading, AskRead n ValueField) in
       let next : walked w (Here (c n KeyField)) ≡ reading
-      = cond-true (c n KeyField == k) reading (get_at (on_way w (c n KeyField)) Walking, AskRead n (way w (c n KeyField))) (eq-eqb (c n KeyField) k (sym e)) in
+      = cond-true (c n KeyField == k) reading (
+        get_at (on_way w (c n KeyField)) Walking,
+        AskRead n
+            (way w (c n KeyField)),
+      ) (eq-eqb (c n KeyField) k (sym e)) in
       subst (Goes 1 past) (sym next) ((omega arith, omega arith), ((sym (ap value_or_nothing found), refl, tt), tt)))
       (λ q s a h past.
       let missing : value_at k ps ≡ None = value_at-empty_hole plain slots c ps tree.tree k q (link_of s) h in
@@ -89,7 +101,8 @@ GetStands past g a Ended = IsLawfulAsk past a
 abbrev GetKeeps : List Event → BstGet × Ask → Type 0
 GetKeeps past s = GetStands past s.0 s.1 s.0.phase
 
-walked_keeps : (past : List Event) (w : Walk) (s : Step) → StepStands past w s → GetKeeps past (get_walked (get_at w Walking) w s)
+walked_keeps : (past : List Event) (w : Walk) (s : Step) → StepStands past w s
+    → GetKeeps past (get_walked (get_at w Walking) w s)
 walked_keeps past w (Visit n) h = h
 walked_keeps past w (Read n f) h = h
 walked_keeps past w (Here x) h =
@@ -97,21 +110,29 @@ walked_keeps past w (Here x) h =
     let reading : BstGet × Ask = (get_at w Reading, AskRead w.node ValueField) in
     let going : BstGet × Ask = (get_at (on_way w x) Walking, AskRead w.node (way w x)) in
     ⊎_elim
-    (λ same. subst (GetKeeps past) (sym (cond-true (x == w.key) reading going same)) (is_some-seen w.node w.version past h.0.come.seen, omega arith))
-    (λ other. subst (GetKeeps past) (sym (cond-false (x == w.key) reading going other)) (goes_on past w x h.0.come (omega arith)))
+    (λ same. subst (GetKeeps past) (sym (cond-true (x == w.key) reading going same)) (
+      is_some-seen w.node w.version
+          past h.0.come.seen,
+      omega arith,
+    ))
+    (λ other. subst (GetKeeps past) (sym (cond-false (x == w.key) reading going other)) (goes_on past w x h.0.come
+    (omega arith)))
     (cases_Bool (x == w.key))
 walked_keeps past w (Missing s link) h = tt
 walked_keeps past w Astray h = tt
 
-get_keeps : (past : List Event) (g : BstGet) (a : Ask) (phase : GetPhase) (t : Told) → IsWord t → GetStands past g a phase
+get_keeps : (past : List Event) (g : BstGet) (a : Ask) (phase : GetPhase) (t : Told) → IsWord t
+    → GetStands past g a phase
     → GetKeeps (learned a t past) (get_told (get_at g.walk phase) phase t)
-get_keeps past g a Walking t word h = walked_keeps (learned a t past) (walk_step g.walk t).0 (walk_step g.walk t).1 (walk_stands past g.walk a t word h)
+get_keeps past g a Walking t word h = walked_keeps (learned a t past) (walk_step g.walk t).0 (walk_step g.walk t).1
+    (walk_stands past g.walk a t word h)
 get_keeps past g a Reading Begin word h = tt
 get_keeps past g a Reading (Version v) word h = tt
 get_keeps past g a Reading (Number v) word h = tt
 get_keeps past g a Ended t word h = tt
 
-get_stands : (past : List Event) (g : BstGet) (a : Ask) (phase : GetPhase) → GetStands past g a phase → IsLawfulAsk past a
+get_stands : (past : List Event) (g : BstGet) (a : Ask) (phase : GetPhase) → GetStands past g a phase
+    → IsLawfulAsk past a
 get_stands past g a Walking h = waits_lawful past g.walk a h
 get_stands past g a Reading h = h
 get_stands past g a Ended h = h
@@ -122,7 +143,8 @@ get_lawful = record {
   asks = λ k ts key words.
       let s : BstGet × Ask = reached get_of get_moves k ts in
       get_stands (learned_along get_moves [] (get_moves (get_of k) Begin) ts) s.0 s.1 s.0.phase
-      (kept_along get_moves GetKeeps (λ past s t word h. get_keeps past s.0 s.1 s.0.phase t word h) ts [] (get_moves (get_of k) Begin) words (refl, refl, inl refl));
+      (kept_along get_moves GetKeeps (λ past s t word h. get_keeps past s.0 s.1 s.0.phase t word h) ts []
+      (get_moves (get_of k) Begin) words (refl, refl, inl refl));
 }
 
 pub get_laws : PlanLaws get_of get_moves IsKey (λ k. map_terms (Get k)) (tree_form plain)

@@ -1,8 +1,11 @@
 -- The two exchanges of a put on a search tree that stands still: each ends right.
-use Rattle.std.proofs.Common.{◌≡◌, ◌≢◌, ℕ, ◌+◌, ◌%◌, ◌^◌, ◌<◌, ◌≤◌, ◌==◌, if◌then◌else◌, inl, inr, ⊎_elim, false, List, [], ◌∷◌, Some, None, refl, sym, ap, ◌∙◌, subst, arith}
+use Rattle.std.proofs.Common.{◌≡◌, ◌≢◌, ℕ, ◌+◌, ◌%◌, ◌^◌, ◌<◌, ◌≤◌, ◌==◌, if◌then◌else◌, inl, inr, ⊎_elim, false, List}
+use Rattle.std.proofs.Common.{[], ◌∷◌, Some, None, refl, sym, ap, ◌∙◌, subst, arith}
 use Rattle.std.specs.Prelude.{IsSome}
 use Rattle.pc_model.specs.declared.cell.Field.{Field}
-use Rattle.pc_model.specs.declared.cell.Field.TheVariants.{Version as VersionField, Key as KeyField, Value as ValueField, Left as LeftLink, Right as RightLink, Parent, Height}
+use Rattle.pc_model.specs.declared.cell.Field.TheVariants.{Version as VersionField, Key as KeyField}
+use Rattle.pc_model.specs.declared.cell.Field.TheVariants.{Value as ValueField, Left as LeftLink, Right as RightLink}
+use Rattle.pc_model.specs.declared.cell.Field.TheVariants.{Parent, Height}
 use Rattle.pc_model.specs.declared.cell.Side.{Side}
 use Rattle.pc_model.specs.declared.cell.Side.TheVariants.{Left, Right}
 use Rattle.pc_model.specs.declared.call.Call.TheVariants.{Put}
@@ -39,7 +42,8 @@ pub link_field : (s : Side) → has (field_number (link_of s)) (0 ∷ []) ≡ fa
 link_field Left = refl
 link_field Right = refl
 
-module _ (slots : ℕ) (c : Cells) (ps : Pairs) (k value : ℕ) (tree : IsSearchTree plain slots c ps) (small_key : k ≤ 999999999999999999) (small_value : value ≤ 999999999999999999)
+module _ (slots : ℕ) (c : Cells) (ps : Pairs) (k value : ℕ) (tree : IsSearchTree plain slots c ps)
+    (small_key : k ≤ 999999999999999999) (small_value : value ≤ 999999999999999999)
     (q : ℕ) (s : Side) (past : List Event) (slot : ℕ) where
   abbrev RightEnd : ByNodes → Type 0
   RightEnd b = IsRightEnd (tree_form plain) slots c past (put k value ps) (map_terms (Put k value)) (planned_by b) slot
@@ -49,7 +53,8 @@ module _ (slots : ℕ) (c : Cells) (ps : Pairs) (k value : ℕ) (tree : IsSearch
   walk_in a n awaited = record { key = k; node = n; awaited = awaited; version = c n VersionField; above = a }
 
   -- The value of the node that the walk has come to changes.
-  module _ (a : Above) (n : ℕ) (l r : Tree) (h : Hole plain slots c ps tree.tree k q (link_of s) (Fork n l r)) (key : c n KeyField ≡ k) where
+  module _ (a : Above) (n : ℕ) (l r : Tree) (h : Hole plain slots c ps tree.tree k q (link_of s) (Fork n l r))
+      (key : c n KeyField ≡ k) where
     abbrev changed : ByNodes
     changed = value_changed (walk_in a n Choice) (c n ValueField) value
 
@@ -58,23 +63,36 @@ module _ (slots : ℕ) (c : Cells) (ps : Pairs) (k value : ℕ) (tree : IsSearch
 
     revalued : IsRevalued c change_left n value
     revalued = record {
-      value = applied_node past changed slot (c slot VersionField) c (refl, tt) ((refl, tt), tt) (record { node = n; version = c n VersionField; fields = record { field = ValueField; old = c n ValueField; new = ToNumber value } ∷ [] }) ValueField (inl refl) (λ some. absurd (cc));
+      value = applied_node past changed slot (c slot VersionField) c (refl, tt) ((refl, tt), tt)
+          (record {
+            node = n;
+            version = c n VersionField;
+            fields = record {
+              field = ValueField;
+              old = c n ValueField;
+              new = ToNumber value;
+            } ∷ [];
+          }) ValueField (inl refl) (λ some. absurd (cc));
       words = λ m f not_version not_value. applied_else_word past (planned_by changed) slot (c slot VersionField) c m f
-          (λ d. ⊎_elim (λ e. not_version (sym e.1)) (λ d1. ⊎_elim (λ e. not_value (sym e.0) (sym e.1)) (λ x. x) d1) d) (λ some. absurd (cc));
-      parity = λ m. parity_by_nodes past changed slot (c slot VersionField) c (refl, tt) ((refl, tt), tt) (refl, tt) m refl (λ some. absurd (cc));
+          (λ d. ⊎_elim (λ e. not_version (sym e.1)) (λ d1. ⊎_elim (λ e. not_value (sym e.0) (sym e.1)) (λ x. x) d1) d)
+          (λ some. absurd (cc));
+      parity = λ m. parity_by_nodes past changed slot (c slot VersionField) c (refl, tt) ((refl, tt), tt) (refl, tt) m
+          refl (λ some. absurd (cc));
     }
 
     pub value_end : RightEnd changed
     value_end = record {
       changes = (refl, (refl, tt));
       taken = tt;
-      leaves = value_changes plain slots c ps tree k value q (link_of s) small_key small_value n l r change_left h key revalued;
+      leaves = value_changes plain slots c ps tree k value q (link_of s) small_key small_value n l r change_left h key
+          revalued;
       charges = λ j debt. absurd debt;
       settles = tt;
     }
 
   -- A leaf hangs at the link where the walk has ended.
-  module _ (a : Above) (h : Hole plain slots c ps tree.tree k q (link_of s) Empty) (is_slot : IsSlot slots slot) (odd : IsOdd (c slot VersionField)) where
+  module _ (a : Above) (h : Hole plain slots c ps tree.tree k q (link_of s) Empty) (is_slot : IsSlot slots slot)
+      (odd : IsOdd (c slot VersionField)) where
     abbrev leaf : Fresh
     leaf = record { key = k; value = value; parent = 0; height = 0 }
 
@@ -85,7 +103,8 @@ module _ (slots : ℕ) (c : Cells) (ps : Pairs) (k value : ℕ) (tree : IsSearch
     leaf_left = applied (exchange_of past (planned_by hung) slot (c slot VersionField)) c
 
     not_leaf : q ≢ slot
-    not_leaf e = let even : c slot VersionField % 2 ≡ 0 = subst (λ (x : ℕ). IsEven (c x VersionField)) e h.unmarked in absurd (omega arith)
+    not_leaf e = let even : c slot VersionField % 2 ≡ 0 = subst (λ (x : ℕ). IsEven (c x VersionField)) e h.unmarked in
+        absurd (omega arith)
 
     abbrev link_change : FieldChange
     link_change = record { field = link_of s; old = c q (link_of s); new = ToFresh }
@@ -97,28 +116,36 @@ module _ (slots : ℕ) (c : Cells) (ps : Pairs) (k value : ℕ) (tree : IsSearch
     fields = (link_field s, tt)
 
     leaf_field : (f : Field) → leaf_left slot f ≡ fresh_fields (c slot VersionField) leaf f
-    leaf_field f = applied_fresh past hung slot (c slot VersionField) c (refl, tt) (fields, tt) leaf f refl (not_among slot q [] (λ e. not_leaf (sym e)) refl)
+    leaf_field f = applied_fresh past hung slot (c slot VersionField) c (refl, tt) (fields, tt) leaf f refl
+        (not_among slot q [] (λ e. not_leaf (sym e)) refl)
 
     is_hung : IsHung plain c leaf_left q (link_of s) slot k value
     is_hung = record {
-      linked = applied_node past hung slot (c slot VersionField) c (refl, tt) (fields, tt) above_change (link_of s) (inl refl) (λ _. not_leaf)
-          ∙ looked_up-here slot link_change [] (if field_number (link_of s) == 0 then (c q VersionField + 2) % 2 ^ 64 else c q (link_of s));
+      linked = applied_node past hung slot (c slot VersionField) c (refl, tt) (fields, tt) above_change (link_of s)
+          (inl refl) (λ _. not_leaf)
+          ∙ looked_up-here slot link_change [] (if field_number (link_of s) == 0 then (c q VersionField + 2) % 2 ^ 64
+          else c q (link_of s));
       key = leaf_field KeyField;
       value = leaf_field ValueField;
       no_left = leaf_field LeftLink;
       no_right = leaf_field RightLink;
       of_kind = (leaf_field Parent, leaf_field Height);
-      unmarked = let e : leaf_left slot VersionField ≡ c slot VersionField + 1 = leaf_field VersionField in let one : c slot VersionField % 2 ≡ 1 = odd in omega (arith, e, one);
-      words = λ m f not_slot not_version not_link. applied_else_word past (planned_by hung) slot (c slot VersionField) c m f
-          (λ d. ⊎_elim (λ e. not_version (sym e.1)) (λ d1. ⊎_elim (λ e. not_link (sym e.0) (sym e.1)) (λ x. x) d1) d) (λ _. not_slot);
-      parity = λ m not_slot. parity_by_nodes past hung slot (c slot VersionField) c (refl, tt) (fields, tt) (refl, tt) m refl (λ _. not_slot);
+      unmarked = let e : leaf_left slot VersionField ≡ c slot VersionField + 1 = leaf_field VersionField in
+          let one : c slot VersionField % 2 ≡ 1 = odd in omega (arith, e, one);
+      words = λ m f not_slot not_version not_link. applied_else_word past (planned_by hung) slot (c slot VersionField)
+          c m f
+          (λ d. ⊎_elim (λ e. not_version (sym e.1)) (λ d1. ⊎_elim (λ e. not_link (sym e.0) (sym e.1)) (λ x. x) d1) d)
+          (λ _. not_slot);
+      parity = λ m not_slot. parity_by_nodes past hung slot (c slot VersionField) c (refl, tt) (fields, tt) (refl, tt)
+          m refl (λ _. not_slot);
     }
 
     pub leaf_end : RightEnd hung
     leaf_end = record {
       changes = (refl, (refl, tt));
       taken = (odd, refl);
-      leaves = leaf_hung plain slots c ps tree k value q (link_of s) small_key small_value slot leaf_left h is_slot odd is_hung;
+      leaves = leaf_hung plain slots c ps tree k value q (link_of s) small_key small_value slot leaf_left h is_slot odd
+          is_hung;
       charges = λ j debt. absurd debt;
       settles = tt;
     }

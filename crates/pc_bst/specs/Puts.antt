@@ -21,7 +21,16 @@ use Rattle.pc_bst.specs.declared.put.BstPut.{BstPut}
 -- the value of the node that the walk has come to is changed
 abbrev pub value_changed : Walk → ℕ → ℕ → ByNodes
 value_changed w old value = record {
-  nodes = record { node = w.node; version = w.version; fields = record { field = ValueField; old = old; new = ToNumber value } ∷ [] } ∷ [];
+  nodes = record {
+    node = w.node;
+    version = w.version;
+    fields = record {
+      field = ValueField;
+      old = old;
+      new = ToNumber
+          value;
+    } ∷ [];
+  } ∷ [];
   mark = None;
   fresh = None;
   charged = [];
@@ -31,7 +40,15 @@ value_changed w old value = record {
 -- a fresh node is hung at a link of that node, which names none
 abbrev pub leaf_added : Walk → Side → ℕ → ℕ → ByNodes
 leaf_added w side link value = record {
-  nodes = record { node = w.node; version = w.version; fields = record { field = link_of side; old = link; new = ToFresh } ∷ [] } ∷ [];
+  nodes = record {
+    node = w.node;
+    version = w.version;
+    fields = record {
+      field = link_of side;
+      old = link;
+      new = ToFresh;
+    } ∷ [];
+  } ∷ [];
   mark = None;
   fresh = Some (record { key = w.key; value = value; parent = 0; height = 0 });
   charged = [];

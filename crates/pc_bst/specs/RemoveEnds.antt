@@ -1,8 +1,11 @@
 -- The exchanges of a remove on a search tree that stands still: each ends right.
-use Rattle.std.proofs.Common.{◌≡◌, ◌≢◌, ℕ, ◌+◌, ◌%◌, ◌^◌, ◌<◌, ◌==◌, if◌then◌else◌, inl, inr, ⊎_elim, true, false, List, [], ◌∷◌, Some, None, refl, sym, ap, ◌∙◌, subst, arith}
+use Rattle.std.proofs.Common.{◌≡◌, ◌≢◌, ℕ, ◌+◌, ◌%◌, ◌^◌, ◌<◌, ◌==◌, if◌then◌else◌, inl, inr, ⊎_elim, true, false}
+use Rattle.std.proofs.Common.{List, [], ◌∷◌, Some, None, refl, sym, ap, ◌∙◌, subst, arith}
 use Rattle.std.proofs.lemmas.Bool.{cases_Bool, eqb-true, eqb-false, ne_eqb, cond-true, cond-false}
 use Rattle.pc_model.specs.declared.cell.Field.{Field}
-use Rattle.pc_model.specs.declared.cell.Field.TheVariants.{Version as VersionField, Key as KeyField, Value as ValueField, Left as LeftLink, Right as RightLink, Parent}
+use Rattle.pc_model.specs.declared.cell.Field.TheVariants.{Version as VersionField, Key as KeyField}
+use Rattle.pc_model.specs.declared.cell.Field.TheVariants.{Value as ValueField, Left as LeftLink, Right as RightLink}
+use Rattle.pc_model.specs.declared.cell.Field.TheVariants.{Parent}
 use Rattle.pc_model.specs.declared.cell.Side.{Side}
 use Rattle.pc_model.specs.declared.cell.Side.TheVariants.{Left, Right}
 use Rattle.pc_model.specs.declared.call.Call.TheVariants.{Remove}
@@ -29,11 +32,13 @@ use Rattle.pc_bst.specs.Removes.{renumbered}
 use Rattle.pc_bst.specs.PutEnds.{link_field}
 
 -- the key and the value of a node change, and a link of it
-pub lifted_fields_differ : (s : Side) (a b x d e g : ℕ) → AreFields (renumbered KeyField a b ∷ renumbered ValueField x d ∷ renumbered (link_of s) e g ∷ [])
+pub lifted_fields_differ : (s : Side) (a b x d e g : ℕ) → AreFields (renumbered KeyField a b ∷ renumbered ValueField x
+    d ∷ renumbered (link_of s) e g ∷ [])
 lifted_fields_differ Left a b x d e g = (refl, (refl, (refl, tt)))
 lifted_fields_differ Right a b x d e g = (refl, (refl, (refl, tt)))
 
-link_looked_up : (s : Side) (slot a b x d e g old : ℕ) → looked_up slot (link_of s) (renumbered KeyField a b ∷ renumbered ValueField x d ∷ renumbered (link_of s) e g ∷ []) old ≡ g
+link_looked_up : (s : Side) (slot a b x d e g old : ℕ) → looked_up slot (link_of s) (renumbered KeyField a b
+    ∷ renumbered ValueField x d ∷ renumbered (link_of s) e g ∷ []) old ≡ g
 link_looked_up Left slot a b x d e g old = refl
 link_looked_up Right slot a b x d e g old = refl
 
@@ -60,7 +65,14 @@ module _ (slots : ℕ) (c : Cells) (ps : Pairs) (k : ℕ) (past : List Event) (s
     mark = record { node = n; version = c n VersionField }
 
     abbrev pub unlinking : ByNodes
-    unlinking = record { nodes = above_change ∷ []; mark = Some mark; fresh = None; charged = []; reply = Value (c n ValueField) }
+    unlinking = record {
+      nodes = above_change ∷ [];
+      mark = Some mark;
+      fresh = None;
+      charged = [];
+      reply = Value
+          (c n ValueField);
+    }
 
     abbrev link : IsLinkAlone (link_of s)
     link = link_alone (link_of s) (link_of-is_link s)
@@ -72,20 +84,27 @@ module _ (slots : ℕ) (c : Cells) (ps : Pairs) (k : ℕ) (past : List Event) (s
     fields = ((link_field s, tt), tt)
 
     word_stays : (m : ℕ) (f : Field) → f ≢ VersionField → (m ≡ q → f ≢ link_of s) → left_by unlinking m f ≡ c m f
-    word_stays m f not_version not_link = applied_else_word past (planned_by unlinking) slot (c slot VersionField) c m f
-        (λ d. ⊎_elim (λ e. not_version (sym e.1)) (λ d1. ⊎_elim (λ e. not_link (sym e.0) (sym e.1)) (λ d2. ⊎_elim (λ e. not_version (sym e.1)) (λ x. x) d2) d1) d) (λ some. absurd (cc))
+    word_stays m f not_version not_link = applied_else_word past (planned_by unlinking) slot (c slot VersionField) c m
+        f
+        (λ d. ⊎_elim (λ e. not_version (sym e.1)) (λ d1. ⊎_elim (λ e. not_link (sym e.0) (sym e.1))
+        (λ d2. ⊎_elim (λ e. not_version (sym e.1)) (λ x. x) d2) d1) d) (λ some. absurd (cc))
 
     is_unlinked : IsUnlinked plain c (left_by unlinking) q (link_of s) n child
     is_unlinked = record {
-      linked = applied_node past unlinking slot (c slot VersionField) c different fields above_change (link_of s) (inl refl) (λ some. absurd (cc))
-          ∙ looked_up-here slot link_change [] (if field_number (link_of s) == 0 then (c q VersionField + 2) % 2 ^ 64 else c q (link_of s));
+      linked = applied_node past unlinking slot (c slot VersionField) c different fields above_change (link_of s)
+          (inl refl) (λ some. absurd (cc))
+          ∙ looked_up-here slot link_change [] (if field_number (link_of s) == 0 then (c q VersionField + 2) % 2 ^ 64
+          else c q (link_of s));
       parent = λ _. word_stays child Parent (λ e. absurd (cc)) (λ _ e. link.parent e);
-      marked = subst IsOdd (sym (applied_mark past (above_change ∷ []) mark None unlinking slot (c slot VersionField) c refl refl different)) (odd_after (c n VersionField) even);
+      marked = subst IsOdd (sym (applied_mark past (above_change ∷ []) mark None unlinking slot (c slot VersionField) c
+          refl refl different)) (odd_after (c n VersionField) even);
       words = λ m f not_n not_version not_link _. word_stays m f not_version not_link;
-      parity = λ m not_n. parity_by_nodes past unlinking slot (c slot VersionField) c different fields (refl, tt) m (ne_eqb n m (λ e. not_n (sym e))) (λ some. absurd (cc));
+      parity = λ m not_n. parity_by_nodes past unlinking slot (c slot VersionField) c different fields (refl, tt) m
+          (ne_eqb n m (λ e. not_n (sym e))) (λ some. absurd (cc));
     }
 
-    pub unlink_end : c q (link_of s) ≡ n → ((c' : Cells) → IsUnlinked plain c c' q (link_of s) n child → IsSearchTree plain slots c' (without k ps)) → RightEnd unlinking
+    pub unlink_end : c q (link_of s) ≡ n → ((c' : Cells) → IsUnlinked plain c c' q (link_of s) n child
+        → IsSearchTree plain slots c' (without k ps)) → RightEnd unlinking
     unlink_end hangs leaves = record {
       changes = (refl, (hangs, (refl, tt)));
       taken = tt;
@@ -110,10 +129,22 @@ module _ (slots : ℕ) (c : Cells) (ps : Pairs) (k : ℕ) (past : List Event) (s
 
     -- where q is n, all changes but the mark are of n
     abbrev one_change : NodeChange
-    one_change = record { node = n; version = c n VersionField; fields = renumbered KeyField k (c m KeyField) ∷ renumbered ValueField (c n ValueField) (c m ValueField) ∷ relink ∷ [] }
+    one_change = record {
+      node = n;
+      version = c n VersionField;
+      fields = renumbered KeyField k (c m KeyField)
+          ∷ renumbered ValueField (c n ValueField) (c m ValueField) ∷ relink ∷ [];
+    }
 
     abbrev pub lifting_one : ByNodes
-    lifting_one = record { nodes = one_change ∷ []; mark = Some next_mark; fresh = None; charged = []; reply = Value (c n ValueField) }
+    lifting_one = record {
+      nodes = one_change ∷ [];
+      mark = Some next_mark;
+      fresh = None;
+      charged = [];
+      reply = Value
+          (c n ValueField);
+    }
 
     one_different : AreDifferent (n ∷ m ∷ [])
     one_different = (not_among n m [] (λ e. not_n (sym e)) refl, (refl, tt))
@@ -121,23 +152,34 @@ module _ (slots : ℕ) (c : Cells) (ps : Pairs) (k : ℕ) (past : List Event) (s
     one_fields : HaveFields (one_change ∷ [])
     one_fields = (lifted_fields_differ s k (c m KeyField) (c n ValueField) (c m ValueField) m (c m RightLink), tt)
 
-    one_stays : (x : ℕ) (f : Field) → f ≢ VersionField → (x ≡ n → f ≢ KeyField) → (x ≡ n → f ≢ ValueField) → (x ≡ n → f ≢ link_of s) → left_by lifting_one x f ≡ c x f
-    one_stays x f not_version not_key not_value not_link = applied_else_word past (planned_by lifting_one) slot (c slot VersionField) c x f
-        (λ d. ⊎_elim (λ e. not_version (sym e.1)) (λ d1. ⊎_elim (λ e. not_key (sym e.0) (sym e.1)) (λ d2. ⊎_elim (λ e. not_value (sym e.0) (sym e.1))
-        (λ d3. ⊎_elim (λ e. not_link (sym e.0) (sym e.1)) (λ d4. ⊎_elim (λ e. not_version (sym e.1)) (λ y. y) d4) d3) d2) d1) d) (λ some. absurd (cc))
+    one_stays : (x : ℕ) (f : Field) → f ≢ VersionField → (x ≡ n → f ≢ KeyField) → (x ≡ n → f ≢ ValueField)
+        → (x ≡ n → f ≢ link_of s) → left_by lifting_one x f ≡ c x f
+    one_stays x f not_version not_key not_value not_link = applied_else_word past (planned_by lifting_one) slot
+        (c slot VersionField) c x f
+        (λ d. ⊎_elim (λ e. not_version (sym e.1)) (λ d1. ⊎_elim (λ e. not_key (sym e.0) (sym e.1))
+        (λ d2. ⊎_elim (λ e. not_value (sym e.0) (sym e.1))
+        (λ d3. ⊎_elim (λ e. not_link (sym e.0) (sym e.1)) (λ d4. ⊎_elim (λ e. not_version (sym e.1)) (λ y. y) d4) d3)
+        d2) d1) d) (λ some. absurd (cc))
 
-    one_at : (f : Field) → left_by lifting_one n f ≡ looked_up slot f one_change.fields (if field_number f == 0 then (c n VersionField + 2) % 2 ^ 64 else c n f)
-    one_at f = applied_node past lifting_one slot (c slot VersionField) c one_different one_fields one_change f (inl refl) (λ some. absurd (cc))
+    one_at : (f : Field) → left_by lifting_one n f ≡ looked_up slot f one_change.fields (if field_number f == 0 then
+        (c n VersionField + 2) % 2 ^ 64 else c n f)
+    one_at f = applied_node past lifting_one slot (c slot VersionField) c one_different one_fields one_change f
+        (inl refl) (λ some. absurd (cc))
 
     one_lifted : IsLifted plain c (left_by lifting_one) n n (link_of s) m
     one_lifted = record {
       key = one_at KeyField;
       value = one_at ValueField;
-      linked = one_at (link_of s) ∙ link_looked_up s slot k (c m KeyField) (c n ValueField) (c m ValueField) m (c m RightLink) (if field_number (link_of s) == 0 then (c n VersionField + 2) % 2 ^ 64 else c n (link_of s));
-      parent = λ _. one_stays (c m RightLink) Parent (λ e. absurd (cc)) (λ _ e. absurd (cc)) (λ _ e. absurd (cc)) (λ _ e. next_link.parent e);
-      marked = subst IsOdd (sym (applied_mark past (one_change ∷ []) next_mark None lifting_one slot (c slot VersionField) c refl refl one_different)) (odd_after (c m VersionField) even);
-      words = λ x f not_m not_version not_key not_value not_link _. one_stays x f not_version not_key not_value not_link;
-      parity = λ x not_m. parity_by_nodes past lifting_one slot (c slot VersionField) c one_different one_fields (refl, tt) x (ne_eqb m x (λ e. not_m (sym e))) (λ some. absurd (cc));
+      linked = one_at (link_of s) ∙ link_looked_up s slot k (c m KeyField) (c n ValueField) (c m ValueField) m
+          (c m RightLink) (if field_number (link_of s) == 0 then (c n VersionField + 2) % 2 ^ 64 else c n (link_of s));
+      parent = λ _. one_stays (c m RightLink) Parent (λ e. absurd (cc)) (λ _ e. absurd (cc)) (λ _ e. absurd (cc))
+          (λ _ e. next_link.parent e);
+      marked = subst IsOdd (sym (applied_mark past (one_change ∷ []) next_mark None lifting_one slot
+          (c slot VersionField) c refl refl one_different)) (odd_after (c m VersionField) even);
+      words = λ x f not_m not_version not_key not_value not_link _. one_stays x f not_version not_key not_value
+          not_link;
+      parity = λ x not_m. parity_by_nodes past lifting_one slot (c slot VersionField) c one_different one_fields
+          (refl, tt) x (ne_eqb m x (λ e. not_m (sym e))) (λ some. absurd (cc));
     }
 
     -- where q is another node, the link is of q
@@ -148,33 +190,54 @@ module _ (slots : ℕ) (c : Cells) (ps : Pairs) (k : ℕ) (past : List Event) (s
     lower_change = record { node = q; version = c q VersionField; fields = relink ∷ [] }
 
     abbrev pub lifting_two : ByNodes
-    lifting_two = record { nodes = upper_change ∷ lower_change ∷ []; mark = Some next_mark; fresh = None; charged = []; reply = Value (c n ValueField) }
+    lifting_two = record {
+      nodes = upper_change ∷ lower_change ∷ [];
+      mark = Some next_mark;
+      fresh = None;
+      charged = [];
+      reply = Value (c n ValueField);
+    }
 
     module _ (apart : q ≢ n) where
       two_different : AreDifferent (n ∷ q ∷ m ∷ [])
-      two_different = (not_among n q (m ∷ []) (λ e. apart (sym e)) (not_among n m [] (λ e. not_n (sym e)) refl), (not_among q m [] (λ e. not_q (sym e)) refl, (refl, tt)))
+      two_different = (
+        not_among n q (m ∷ []) (λ e. apart (sym e)) (not_among n m [] (λ e. not_n (sym e)) refl),
+        (not_among q m [] (λ e. not_q (sym e)) refl, (refl, tt)),
+      )
 
       two_fields : HaveFields (upper_change ∷ lower_change ∷ [])
       two_fields = ((refl, (refl, tt)), ((link_field s, tt), tt))
 
-      two_stays : (x : ℕ) (f : Field) → f ≢ VersionField → (x ≡ n → f ≢ KeyField) → (x ≡ n → f ≢ ValueField) → (x ≡ q → f ≢ link_of s) → left_by lifting_two x f ≡ c x f
-      two_stays x f not_version not_key not_value not_link = applied_else_word past (planned_by lifting_two) slot (c slot VersionField) c x f
-          (λ d. ⊎_elim (λ e. not_version (sym e.1)) (λ d1. ⊎_elim (λ e. not_key (sym e.0) (sym e.1)) (λ d2. ⊎_elim (λ e. not_value (sym e.0) (sym e.1))
-          (λ d3. ⊎_elim (λ e. not_version (sym e.1)) (λ d4. ⊎_elim (λ e. not_link (sym e.0) (sym e.1)) (λ d5. ⊎_elim (λ e. not_version (sym e.1)) (λ y. y) d5) d4) d3) d2) d1) d) (λ some. absurd (cc))
+      two_stays : (x : ℕ) (f : Field) → f ≢ VersionField → (x ≡ n → f ≢ KeyField) → (x ≡ n → f ≢ ValueField)
+          → (x ≡ q → f ≢ link_of s) → left_by lifting_two x f ≡ c x f
+      two_stays x f not_version not_key not_value not_link = applied_else_word past (planned_by lifting_two) slot
+          (c slot VersionField) c x f
+          (λ d. ⊎_elim (λ e. not_version (sym e.1)) (λ d1. ⊎_elim (λ e. not_key (sym e.0) (sym e.1))
+          (λ d2. ⊎_elim (λ e. not_value (sym e.0) (sym e.1))
+          (λ d3. ⊎_elim (λ e. not_version (sym e.1)) (λ d4. ⊎_elim (λ e. not_link (sym e.0) (sym e.1))
+          (λ d5. ⊎_elim (λ e. not_version (sym e.1)) (λ y. y) d5) d4) d3) d2) d1) d) (λ some. absurd (cc))
 
-      upper_at : (f : Field) → left_by lifting_two n f ≡ looked_up slot f up (if field_number f == 0 then (c n VersionField + 2) % 2 ^ 64 else c n f)
-      upper_at f = applied_node past lifting_two slot (c slot VersionField) c two_different two_fields upper_change f (inl refl) (λ some. absurd (cc))
+      upper_at : (f : Field) → left_by lifting_two n f ≡ looked_up slot f up (if field_number f == 0 then
+          (c n VersionField + 2) % 2 ^ 64 else c n f)
+      upper_at f = applied_node past lifting_two slot (c slot VersionField) c two_different two_fields upper_change f
+          (inl refl) (λ some. absurd (cc))
 
       two_lifted : IsLifted plain c (left_by lifting_two) n q (link_of s) m
       two_lifted = record {
         key = upper_at KeyField;
         value = upper_at ValueField;
-        linked = applied_node past lifting_two slot (c slot VersionField) c two_different two_fields lower_change (link_of s) (inr (inl refl)) (λ some. absurd (cc))
-            ∙ looked_up-here slot relink [] (if field_number (link_of s) == 0 then (c q VersionField + 2) % 2 ^ 64 else c q (link_of s));
-        parent = λ _. two_stays (c m RightLink) Parent (λ e. absurd (cc)) (λ _ e. absurd (cc)) (λ _ e. absurd (cc)) (λ _ e. next_link.parent e);
-        marked = subst IsOdd (sym (applied_mark past (upper_change ∷ lower_change ∷ []) next_mark None lifting_two slot (c slot VersionField) c refl refl two_different)) (odd_after (c m VersionField) even);
-        words = λ x f not_m not_version not_key not_value not_link _. two_stays x f not_version not_key not_value not_link;
-        parity = λ x not_m. parity_by_nodes past lifting_two slot (c slot VersionField) c two_different two_fields (refl, (refl, tt)) x (ne_eqb m x (λ e. not_m (sym e))) (λ some. absurd (cc));
+        linked = applied_node past lifting_two slot (c slot VersionField) c two_different two_fields lower_change
+            (link_of s) (inr (inl refl)) (λ some. absurd (cc))
+            ∙ looked_up-here slot relink [] (if field_number (link_of s) == 0 then (c q VersionField + 2) % 2 ^ 64 else
+            c q (link_of s));
+        parent = λ _. two_stays (c m RightLink) Parent (λ e. absurd (cc)) (λ _ e. absurd (cc)) (λ _ e. absurd (cc))
+            (λ _ e. next_link.parent e);
+        marked = subst IsOdd (sym (applied_mark past (upper_change ∷ lower_change ∷ []) next_mark None lifting_two slot
+            (c slot VersionField) c refl refl two_different)) (odd_after (c m VersionField) even);
+        words = λ x f not_m not_version not_key not_value not_link _. two_stays x f not_version not_key not_value
+            not_link;
+        parity = λ x not_m. parity_by_nodes past lifting_two slot (c slot VersionField) c two_different two_fields
+            (refl, (refl, tt)) x (ne_eqb m x (λ e. not_m (sym e))) (λ some. absurd (cc));
       }
 
     -- the exchange of a lift, as the plan asks for it
@@ -187,16 +250,25 @@ module _ (slots : ℕ) (c : Cells) (ps : Pairs) (k : ℕ) (past : List Event) (s
       reply = Value (c n ValueField);
     }
 
-    pub lift_end : c n KeyField ≡ k → c q (link_of s) ≡ m → ((c' : Cells) → IsLifted plain c c' n q (link_of s) m → IsSearchTree plain slots c' (without k ps)) → RightEnd lifting
+    pub lift_end : c n KeyField ≡ k → c q (link_of s) ≡ m → ((c' : Cells) → IsLifted plain c c' n q (link_of s) m
+        → IsSearchTree plain slots c' (without k ps)) → RightEnd lifting
     lift_end key hangs leaves =
-        let By : List NodeChange → Type 0 = λ nodes. RightEnd (record { nodes = nodes; mark = Some next_mark; fresh = None; charged = []; reply = Value (c n ValueField) }) in
+        let By : List NodeChange → Type 0 = λ nodes. RightEnd (record {
+          nodes = nodes;
+          mark = Some next_mark;
+          fresh
+              = None;
+          charged = [];
+          reply = Value (c n ValueField);
+        }) in
         ⊎_elim
         (λ same. let e : q ≡ n = eqb-true q n same in
         subst By (sym (cond-true (q == n) (one_change ∷ []) (upper_change ∷ lower_change ∷ []) same))
         (record {
           changes = (refl, (key, (refl, (subst (λ (x : ℕ). c x (link_of s) ≡ m) e hangs, (refl, tt)))));
           taken = tt;
-          leaves = leaves (left_by lifting_one) (subst (λ (x : ℕ). IsLifted plain c (left_by lifting_one) n x (link_of s) m) (sym e) one_lifted);
+          leaves = leaves (left_by lifting_one) (subst (λ (x : ℕ). IsLifted plain c (left_by lifting_one) n x
+              (link_of s) m) (sym e) one_lifted);
           charges = λ j debt. absurd debt;
           settles = tt;
         }))

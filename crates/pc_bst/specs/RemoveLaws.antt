@@ -19,13 +19,17 @@ abbrev turns : ℕ → ℕ
 turns slots = 6 * slots + (suc (suc (suc (2 * slots + 3))) + 3)
 
 remove_runs : Runs remove_of remove_moves IsKey remove_terms (tree_form plain)
-remove_runs = runs_by_course remove_of remove_moves IsKey remove_terms (tree_form plain) RemovesRight (λ slots c ps k past a h. h.0)
+remove_runs = runs_by_course remove_of remove_moves IsKey remove_terms (tree_form plain) RemovesRight
+    (λ slots c ps k past a h. h.0)
     turns (λ slots. omega arith) (λ slots c ps k ready key. remove_course slots c ps k ready)
 
 -- on sound cells a remove of a key that is there never answers: it ends in an exchange
-pub remove_changes : (slots : ℕ) (c : Cells) (ps : Pairs) (k : ℕ) (ts : List Told) → IsReady (tree_form plain) slots c ps → IsKey k → AgreesWith remove_of remove_moves c k ts
-    → IsOnCourse slots c remove_moves (RemovesRight slots c ps k) (past_of remove_of remove_moves k ts) (reached remove_of remove_moves k ts).1
-remove_changes = along_course remove_of remove_moves IsKey remove_terms (tree_form plain) RemovesRight (λ slots c ps k past a h. h.0)
+pub remove_changes : (slots : ℕ) (c : Cells) (ps : Pairs) (k : ℕ) (ts : List Told)
+    → IsReady (tree_form plain) slots c ps → IsKey k → AgreesWith remove_of remove_moves c k ts
+    → IsOnCourse slots c remove_moves (RemovesRight slots c ps k) (past_of remove_of remove_moves k ts)
+    (reached remove_of remove_moves k ts).1
+remove_changes = along_course remove_of remove_moves IsKey remove_terms (tree_form plain) RemovesRight
+    (λ slots c ps k past a h. h.0)
     turns (λ slots. omega arith) (λ slots c ps k ready key. remove_course slots c ps k ready)
 
 pub remove_laws : PlanLaws remove_of remove_moves IsKey (λ k. map_terms (Remove k)) (tree_form plain)

@@ -1,7 +1,8 @@
 -- The plan of a remove, as a machine.
 use Rattle.std.specs.Prelude.{ℕ, ◌==◌, if◌then◌else◌, List, [], ◌∷◌, ◌++◌, Option, Some, None}
 use Rattle.pc_model.specs.declared.cell.Field.{Field}
-use Rattle.pc_model.specs.declared.cell.Field.TheVariants.{Key as KeyField, Value as ValueField, Left as LeftLink, Right as RightLink}
+use Rattle.pc_model.specs.declared.cell.Field.TheVariants.{Key as KeyField, Value as ValueField, Left as LeftLink}
+use Rattle.pc_model.specs.declared.cell.Field.TheVariants.{Right as RightLink}
 use Rattle.pc_model.specs.declared.cell.Side.TheVariants.{Left, Right}
 use Rattle.pc_model.specs.declared.call.Reply.TheVariants.{Value, None as Nothing}
 use Rattle.pc_model.specs.Cells.{node_at}
@@ -19,12 +20,20 @@ use Rattle.pc_plan.specs.declared.walk.Step.TheVariants.{Visit, Read, Here, Miss
 use Rattle.pc_plan.specs.NodeChanges.{FieldChange, NodeChange, ByNodes, planned_by}
 use Rattle.pc_plan.specs.Walks.{walk_of, on_way, way, walk_step}
 use Rattle.pc_bst.specs.declared.remove.RemovePhase.{RemovePhase}
-use Rattle.pc_bst.specs.declared.remove.RemovePhase.TheVariants.{Walking, ReadingLeft, ReadingRight, ReadingValue, Visiting, ReadingNext, ReadingNextKey, ReadingNextValue, ReadingNextRight, Ended}
+use Rattle.pc_bst.specs.declared.remove.RemovePhase.TheVariants.{Walking, ReadingLeft, ReadingRight, ReadingValue}
+use Rattle.pc_bst.specs.declared.remove.RemovePhase.TheVariants.{Visiting, ReadingNext, ReadingNextKey}
+use Rattle.pc_bst.specs.declared.remove.RemovePhase.TheVariants.{ReadingNextValue, ReadingNextRight, Ended}
 use Rattle.pc_bst.specs.declared.remove.Next.{Next}
 use Rattle.pc_bst.specs.declared.remove.BstRemove.{BstRemove}
 
 abbrev pub nothing_next : Next
-nothing_next = record { node = 0; version = 0; above = record { node = 0; side = Left; version = 0 }; key = 0; value = 0 }
+nothing_next = record {
+  node = 0;
+  version = 0;
+  above = record { node = 0; side = Left; version = 0 };
+  key = 0;
+  value = 0;
+}
 
 abbrev pub remove_of : ℕ → BstRemove
 remove_of k = record { walk = walk_of k; left = 0; right = 0; value = 0; next = nothing_next; phase = Walking }
@@ -56,7 +65,12 @@ renumbered f old new = record { field = f; old = old; new = ToNumber new }
 -- the link to the node with the key goes to its only child, or to none
 abbrev pub unlinked : BstRemove → ℕ → ByNodes
 unlinked r child = record {
-  nodes = record { node = r.walk.above.node; version = r.walk.above.version; fields = renumbered (link_of r.walk.above.side) r.walk.node child ∷ [] } ∷ [];
+  nodes = record {
+    node = r.walk.above.node;
+    version = r.walk.above.version;
+    fields = renumbered
+        (link_of r.walk.above.side) r.walk.node child ∷ [];
+  } ∷ [];
   mark = Some (record { node = r.walk.node; version = r.walk.version });
   fresh = None;
   charged = [];
@@ -98,7 +112,8 @@ going_below r a n = if has n (r.walk.node ∷ a.node ∷ []) then remove_gives_u
 abbrev pub chosen : BstRemove → Option ℕ → Option ℕ → BstRemove × Ask
 chosen r None below = remove_ends r (unlinked r r.right)
 chosen r (Some l) None = remove_ends r (unlinked r r.left)
-chosen r (Some l) (Some below) = going_below r (record { node = r.walk.node; side = Right; version = r.walk.version }) below
+chosen r (Some l) (Some below) = going_below r (record { node = r.walk.node; side = Right; version = r.walk.version })
+    below
 
 -- it goes left as long as there is a node, and then reads the successor
 abbrev pub following : BstRemove → Option ℕ → BstRemove × Ask
@@ -138,10 +153,13 @@ remove_told r Walking t = remove_walked r (walk_step r.walk t).0 (walk_step r.wa
 remove_told r ReadingLeft (Number left) = remove_reads (with_left r left) ReadingRight r.walk.node RightLink
 remove_told r ReadingRight (Number right) = remove_reads (with_right r right) ReadingValue r.walk.node ValueField
 remove_told r ReadingValue (Number value) = chosen (with_value r value) (node_at r.left) (node_at r.right)
-remove_told r Visiting (Version v) = remove_reads (with_next r (next_version r.next v)) ReadingNext r.next.node LeftLink
+remove_told r Visiting (Version v) = remove_reads (with_next r (next_version r.next v)) ReadingNext r.next.node
+    LeftLink
 remove_told r ReadingNext (Number left) = following r (node_at left)
-remove_told r ReadingNextKey (Number key) = remove_reads (with_next r (next_key r.next key)) ReadingNextValue r.next.node ValueField
-remove_told r ReadingNextValue (Number value) = remove_reads (with_next r (next_value r.next value)) ReadingNextRight r.next.node RightLink
+remove_told r ReadingNextKey (Number key) = remove_reads (with_next r (next_key r.next key)) ReadingNextValue
+    r.next.node ValueField
+remove_told r ReadingNextValue (Number value) = remove_reads (with_next r (next_value r.next value)) ReadingNextRight
+    r.next.node RightLink
 remove_told r ReadingNextRight (Number right) = remove_ends r (lifted r right)
 remove_told r _ _ = remove_gives_up r
 

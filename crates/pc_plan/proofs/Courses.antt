@@ -15,8 +15,10 @@ use Rattle.pc_plan.specs.declared.plan.Told.{Told}
 use Rattle.pc_plan.specs.declared.plan.Told.TheVariants.{Begin, Version, Number}
 use Rattle.pc_plan.specs.Planned.{Planned}
 use Rattle.pc_plan.specs.Terms.{Terms, IsReply}
-use Rattle.pc_plan.specs.Traces.{Event, visited, found, after, learned_along, Agrees, visits_in, reads_in, version_seen}
-use Rattle.pc_plan.specs.Runs.{change_at, fresh_at, exchange_of, Takes, SettlesIn, IsRightChange, IsRightAsk, IsReady, Runs, reached, past_of, AgreesWith}
+use Rattle.pc_plan.specs.Traces.{Event, visited, found, after, learned_along, Agrees, visits_in, reads_in}
+use Rattle.pc_plan.specs.Traces.{version_seen}
+use Rattle.pc_plan.specs.Runs.{change_at, fresh_at, exchange_of, Takes, SettlesIn, IsRightChange, IsRightAsk, IsReady}
+use Rattle.pc_plan.specs.Runs.{Runs, reached, past_of, AgreesWith}
 
 -- the cells have all that was learned
 abbrev pub PastHolds : Cells → List Event → Type 0
@@ -44,9 +46,11 @@ module _ (slots : ℕ) (c : Cells) {P : Type 0} (moves : P → Told → P × Ask
   Course (Read n f) zero past s = ⊥
   Course (Visit n) (suc turns) past s =
       (IsNode slots n × IsEven (c n VersionField) × (version_seen n past ≡ None))
-      × Course (moves s (Version (c n VersionField))).1 turns (visited n (c n VersionField) ∷ past) (moves s (Version (c n VersionField))).0
+      × Course (moves s (Version (c n VersionField))).1 turns (visited n (c n VersionField) ∷ past)
+      (moves s (Version (c n VersionField))).0
   Course (Read n f) (suc turns) past s =
-      IsNode slots n × Course (moves s (Number (c n f))).1 turns (found n f (c n f) ∷ past) (moves s (Number (c n f))).0
+      IsNode slots n × Course (moves s (Number (c n f))).1 turns (found n f (c n f) ∷ past)
+      (moves s (Number (c n f))).0
 
   -- with more turns it is as good
   pub more_turns : (m n : ℕ) (a : Ask) (past : List Event) (s : P) → m ≤ n → Course a m past s → Course a n past s
@@ -56,10 +60,16 @@ module _ (slots : ℕ) (c : Cells) {P : Type 0} (moves : P → Told → P × Ask
   more_turns zero n (Read k f) past s le h = absurd h
   more_turns (suc m) zero (Visit k) past s le h = absurd (omega arith)
   more_turns (suc m) zero (Read k f) past s le h = absurd (omega arith)
-  more_turns (suc m) (suc n) (Visit k) past s le h =
-      (h.0, more_turns m n (moves s (Version (c k VersionField))).1 (visited k (c k VersionField) ∷ past) (moves s (Version (c k VersionField))).0 (omega arith) h.1)
-  more_turns (suc m) (suc n) (Read k f) past s le h =
-      (h.0, more_turns m n (moves s (Number (c k f))).1 (found k f (c k f) ∷ past) (moves s (Number (c k f))).0 (omega arith) h.1)
+  more_turns (suc m) (suc n) (Visit k) past s le h = (
+    h.0,
+    more_turns m n (moves s (Version (c k VersionField))).1 (visited k (c k VersionField) ∷ past)
+        (moves s (Version (c k VersionField))).0 (omega arith) h.1,
+  )
+  more_turns (suc m) (suc n) (Read k f) past s le h = (
+    h.0,
+    more_turns m n (moves s (Number (c k f))).1 (found k f (c k f) ∷ past) (moves s (Number (c k f))).0
+        (omega arith) h.1,
+  )
 
   -- what holds of an ask along a course: it can go on, or what is wanted holds at its end
   abbrev pub IsOnCourse : List Event → Ask → Type 0
@@ -84,14 +94,18 @@ module _ (slots : ℕ) (c : Cells) {P : Type 0} (moves : P → Told → P × Ask
   course_goes (t ∷ ts) (Read n f) zero past s h k agrees = absurd k
   course_goes (Version v ∷ ts) (Visit n) (suc turns) past s h k agrees =
       let next : Course (moves s (Version v)).1 turns (visited n v ∷ past) (moves s (Version v)).0 =
-      subst (λ (x : ℕ). Course (moves s (Version x)).1 turns (visited n x ∷ past) (moves s (Version x)).0) agrees.0.0 k.1 in
-      course_goes ts (moves s (Version v)).1 turns (visited n v ∷ past) (moves s (Version v)).0 (agrees.0, h) next agrees.1
+      subst (λ (x : ℕ). Course (moves s (Version x)).1 turns (visited n x ∷ past) (moves s (Version x)).0) agrees.0.0
+      k.1 in
+      course_goes ts (moves s (Version v)).1 turns (visited n v ∷ past) (moves s (Version v)).0 (agrees.0, h) next
+      agrees.1
   course_goes (Begin ∷ ts) (Visit n) (suc turns) past s h k agrees = absurd agrees.0
   course_goes (Number x ∷ ts) (Visit n) (suc turns) past s h k agrees = absurd agrees.0
   course_goes (Number v ∷ ts) (Read n f) (suc turns) past s h k agrees =
       let next : Course (moves s (Number v)).1 turns (found n f v ∷ past) (moves s (Number v)).0 =
-      subst (λ (x : ℕ). Course (moves s (Number x)).1 turns (found n f x ∷ past) (moves s (Number x)).0) agrees.0 k.1 in
-      course_goes ts (moves s (Number v)).1 turns (found n f v ∷ past) (moves s (Number v)).0 (agrees.0, h) next agrees.1
+      subst (λ (x : ℕ). Course (moves s (Number x)).1 turns (found n f x ∷ past) (moves s (Number x)).0) agrees.0
+      k.1 in
+      course_goes ts (moves s (Number v)).1 turns (found n f v ∷ past) (moves s (Number v)).0 (agrees.0, h) next
+      agrees.1
   course_goes (Begin ∷ ts) (Read n f) (suc turns) past s h k agrees = absurd agrees.0
   course_goes (Version x ∷ ts) (Read n f) (suc turns) past s h k agrees = absurd agrees.0
 
@@ -105,15 +119,19 @@ module _ (slots : ℕ) (c : Cells) {P : Type 0} (moves : P → Told → P × Ask
   course_ends (t ∷ ts) (Read n f) zero past s k agrees = absurd k
   course_ends (Version v ∷ ts) (Visit n) (suc turns) past s k agrees =
       let next : Course (moves s (Version v)).1 turns (visited n v ∷ past) (moves s (Version v)).0 =
-      subst (λ (x : ℕ). Course (moves s (Version x)).1 turns (visited n x ∷ past) (moves s (Version x)).0) agrees.0.0 k.1 in
-      let ih : length ts ≤ turns = course_ends ts (moves s (Version v)).1 turns (visited n v ∷ past) (moves s (Version v)).0 next agrees.1 in
+      subst (λ (x : ℕ). Course (moves s (Version x)).1 turns (visited n x ∷ past) (moves s (Version x)).0) agrees.0.0
+      k.1 in
+      let ih : length ts ≤ turns = course_ends ts (moves s (Version v)).1 turns (visited n v ∷ past)
+      (moves s (Version v)).0 next agrees.1 in
       omega arith
   course_ends (Begin ∷ ts) (Visit n) (suc turns) past s k agrees = absurd agrees.0
   course_ends (Number x ∷ ts) (Visit n) (suc turns) past s k agrees = absurd agrees.0
   course_ends (Number v ∷ ts) (Read n f) (suc turns) past s k agrees =
       let next : Course (moves s (Number v)).1 turns (found n f v ∷ past) (moves s (Number v)).0 =
-      subst (λ (x : ℕ). Course (moves s (Number x)).1 turns (found n f x ∷ past) (moves s (Number x)).0) agrees.0 k.1 in
-      let ih : length ts ≤ turns = course_ends ts (moves s (Number v)).1 turns (found n f v ∷ past) (moves s (Number v)).0 next agrees.1 in
+      subst (λ (x : ℕ). Course (moves s (Number x)).1 turns (found n f x ∷ past) (moves s (Number x)).0) agrees.0
+      k.1 in
+      let ih : length ts ≤ turns = course_ends ts (moves s (Number v)).1 turns (found n f v ∷ past)
+      (moves s (Number v)).0 next agrees.1 in
       omega arith
   course_ends (Begin ∷ ts) (Read n f) (suc turns) past s k agrees = absurd agrees.0
   course_ends (Version x ∷ ts) (Read n f) (suc turns) past s k agrees = absurd agrees.0
@@ -126,7 +144,8 @@ pub record IsRightEnd (form : Form) (slots : ℕ) (c : Cells) (past : List Event
   pub leaves : form.sound slots (applied (exchange_of past p slot (c slot VersionField)) c) next
   pub charges : (k : ℕ) → form.in_debt slots (applied (exchange_of past p slot (c slot VersionField)) c) k
       → form.in_debt slots c k ⊎ IsTrue (has k p.charged)
-  pub settles : SettlesIn form slots (applied (exchange_of past p slot (c slot VersionField)) c) p.charged terms.lower (terms.settles p.reply)
+  pub settles : SettlesIn form slots (applied (exchange_of past p slot (c slot VersionField)) c) p.charged terms.lower
+      (terms.settles p.reply)
 
 module _ (form : Form) (slots : ℕ) (c : Cells) (ps : Pairs) (terms : Terms) where
   -- the end is right: the reply, and the exchange whatever free slot it takes
@@ -142,7 +161,12 @@ module _ (form : Form) (slots : ℕ) (c : Cells) (ps : Pairs) (terms : Terms) wh
       → IsRightEnd form slots c past (terms.step ps).pairs terms p slot
       → IsRightChange form slots c past (terms.step ps).pairs p slot
   right_change past p slot h e = record {
-    stands = record { visits = visits_stand c past h; reads = reads_stand c past h; changes = e.changes; fresh = e.taken };
+    stands = record {
+      visits = visits_stand c past h;
+      reads = reads_stand c past h;
+      changes = e.changes;
+      fresh = e.taken;
+    };
     leaves = e.leaves;
     charges = e.charges;
   }
@@ -159,25 +183,33 @@ module _ (form : Form) (slots : ℕ) (c : Cells) (ps : Pairs) (terms : Terms) wh
   right_on_course moves Wanted right past (Answer r) h = right past (Answer r) h.1
 
 -- A plan runs right that has a course, short enough and right at its end, on all cells that are ready for it.
-module _ {P C : Type 0} (start : C → P) (moves : P → Told → P × Ask) (can_call : C → Type 0) (terms : C → Terms) (form : Form)
+module _ {P C : Type 0} (start : C → P) (moves : P → Told → P × Ask) (can_call : C → Type 0) (terms : C
+    → Terms) (form : Form)
     (Wanted : (slots : ℕ) (c : Cells) (ps : Pairs) (call : C) → List Event → Ask → Type 0)
-    (right : (slots : ℕ) (c : Cells) (ps : Pairs) (call : C) (past : List Event) (a : Ask) → Wanted slots c ps call past a → EndsRight form slots c ps (terms call) past a)
+    (right : (slots : ℕ) (c : Cells) (ps : Pairs) (call : C) (past : List Event) (a : Ask)
+    → Wanted slots c ps call past a → EndsRight form slots c ps (terms call) past a)
     (turns : ℕ → ℕ) (few : (slots : ℕ) → turns slots < 9 * (slots + 2))
     (course : (slots : ℕ) (c : Cells) (ps : Pairs) (call : C) → IsReady form slots c ps → can_call call
-    → Course slots c moves (Wanted slots c ps call) (moves (start call) Begin).1 (turns slots) [] (moves (start call) Begin).0) where
+    → Course slots c moves (Wanted slots c ps call) (moves (start call) Begin).1 (turns slots) []
+    (moves (start call) Begin).0) where
   -- where a trace that agrees with the cells has led to
-  pub along_course : (slots : ℕ) (c : Cells) (ps : Pairs) (call : C) (ts : List Told) → IsReady form slots c ps → can_call call → AgreesWith start moves c call ts
+  pub along_course : (slots : ℕ) (c : Cells) (ps : Pairs) (call : C) (ts : List Told) → IsReady form slots c ps
+      → can_call call → AgreesWith start moves c call ts
       → IsOnCourse slots c moves (Wanted slots c ps call) (past_of start moves call ts) (reached start moves call ts).1
   along_course slots c ps call ts ready can agrees =
-      course_goes slots c moves (Wanted slots c ps call) ts (moves (start call) Begin).1 (turns slots) [] (moves (start call) Begin).0 tt (course slots c ps call ready can) agrees
+      course_goes slots c moves (Wanted slots c ps call) ts (moves (start call) Begin).1 (turns slots) []
+      (moves (start call) Begin).0 tt (course slots c ps call ready can) agrees
 
   pub runs_by_course : Runs start moves can_call terms form
   runs_by_course = record {
     goes = λ slots c ps call ts ready can agrees.
         right_on_course form slots c ps (terms call) moves (Wanted slots c ps call) (right slots c ps call)
-        (past_of start moves call ts) (reached start moves call ts).1 (along_course slots c ps call ts ready can agrees);
+        (past_of start moves call ts) (reached start moves call ts).1 (along_course slots c ps call ts ready can
+        agrees);
     ends = λ slots c ps call ts ready can agrees.
-        let le : length ts ≤ turns slots = course_ends slots c moves (Wanted slots c ps call) ts (moves (start call) Begin).1 (turns slots) [] (moves (start call) Begin).0 (course slots c ps call ready can) agrees in
+        let le : length ts ≤ turns slots = course_ends slots c moves (Wanted slots c ps call) ts
+        (moves (start call) Begin).1 (turns slots) [] (moves (start call) Begin).0 (course slots c ps call ready can)
+        agrees in
         let below : turns slots < 9 * (slots + 2) = few slots in
         omega arith;
   }

@@ -11,13 +11,18 @@ use Rattle.pc_plan.proofs.Learning.{version_seen-else}
 abbrev pub IsUnseen : Tree → List Event → Type 0
 IsUnseen t past = (m : ℕ) → IsIn m t → version_seen m past ≡ None
 
-module _ (c : Cells) (n : ℕ) (l r : Tree) (a : Apart c n l r) (v : ℕ) (past : List Event) (unseen : IsUnseen (Fork n l r) past) where
+module _ (c : Cells) (n : ℕ) (l r : Tree) (a : Apart c n l r) (v : ℕ) (past : List Event) (unseen : IsUnseen
+    (Fork n l r) past) where
   pub unseen_left : IsUnseen l (visited n v ∷ past)
-  unseen_left m i = version_seen-else m n v past (λ e. a.not_left (subst (λ (x : ℕ). IsIn x l) (sym e) i)) ∙ unseen m (inr (inl i))
+  unseen_left m i = version_seen-else m n v past (λ e. a.not_left (subst (λ (x : ℕ). IsIn x l) (sym e) i))
+      ∙ unseen m (inr (inl i))
 
   pub unseen_right : IsUnseen r (visited n v ∷ past)
-  unseen_right m i = version_seen-else m n v past (λ e. a.not_right (subst (λ (x : ℕ). IsIn x r) (sym e) i)) ∙ unseen m (inr (inr i))
+  unseen_right m i = version_seen-else m n v past (λ e. a.not_right (subst (λ (x : ℕ). IsIn x r) (sym e) i))
+      ∙ unseen m (inr (inr i))
 
 -- a plan that has visited the sentinel alone has seen nothing of the tree
-pub unseen_whole : (kind : Kind) (slots : ℕ) (c : Cells) (t : Tree) (v : ℕ) → Spells kind slots c t 1 (c 1 Left) → IsUnseen t (visited 1 v ∷ [])
-unseen_whole kind slots c t v spelled m i = let slot : IsSlot slots m = slot_in kind slots c t 1 (c 1 Left) m spelled i in version_seen-else m 1 v [] (λ e. absurd (omega arith))
+pub unseen_whole : (kind : Kind) (slots : ℕ) (c : Cells) (t : Tree) (v : ℕ) → Spells kind slots c t 1 (c 1 Left)
+    → IsUnseen t (visited 1 v ∷ [])
+unseen_whole kind slots c t v spelled m i = let slot : IsSlot slots m = slot_in kind slots c t 1 (c 1 Left) m spelled
+    i in version_seen-else m 1 v [] (λ e. absurd (omega arith))

@@ -1,12 +1,14 @@
 -- The course of a walk on a search tree that stands still, for every plan that begins with one. What the
 -- plan keeps on the way is a parameter, with what is good of it at each hole; so are its steps at a node
 -- whose key it was told, and at a link that names no node.
-use Rattle.std.proofs.Common.{◌≡◌, ◌≢◌, ℕ, suc, ◌+◌, ◌*◌, ◌<◌, ◌≤◌, ◌==◌, inl, ⊎_elim, false, List, [], ◌∷◌, Some, None, refl, sym, ap, ◌∙◌, subst, arith}
+use Rattle.std.proofs.Common.{◌≡◌, ◌≢◌, ℕ, suc, ◌+◌, ◌*◌, ◌<◌, ◌≤◌, ◌==◌, inl, ⊎_elim, false, List, [], ◌∷◌, Some}
+use Rattle.std.proofs.Common.{None, refl, sym, ap, ◌∙◌, subst, arith}
 use Rattle.std.specs.Prelude.{max}
 use Rattle.std.proofs.lemmas.Bool.{ne_eqb, cases_order, lt-ltb, le-ltb, cond-true, cond-false}
 use Rattle.std.specs.Prelude.{nat_lt}
 use Rattle.pc_model.specs.declared.cell.Field.{Field}
-use Rattle.pc_model.specs.declared.cell.Field.TheVariants.{Version as VersionField, Key as KeyField, Left as LeftLink, Right as RightLink}
+use Rattle.pc_model.specs.declared.cell.Field.TheVariants.{Version as VersionField, Key as KeyField, Left as LeftLink}
+use Rattle.pc_model.specs.declared.cell.Field.TheVariants.{Right as RightLink}
 use Rattle.pc_model.specs.Map.{Pairs}
 use Rattle.pc_model.specs.Cells.{Cells, IsSlot, node_at}
 use Rattle.pc_model.specs.Debts.{has}
@@ -50,7 +52,8 @@ toward_right k x more = cond-false (nat_lt k x) Left Right (le-ltb k x more)
 abbrev pub nowhere : Above
 nowhere = record { node = 0; side = Left; version = 0 }
 
-module _ (slots : ℕ) (c : Cells) (kind : Kind) (ps : Pairs) (few : slots ≤ 61000) (tree : IsSearchTree kind slots c ps) (k : ℕ) where
+module _ (slots : ℕ) (c : Cells) (kind : Kind) (ps : Pairs) (few : slots ≤ 61000) (tree : IsSearchTree kind slots c ps)
+    (k : ℕ) where
   -- the hole at a link of a node, where the walk to the key passes
   abbrev pub HoleAt : ℕ → Side → Tree → Type 0
   HoleAt q s t = Hole kind slots c ps tree.tree k q (link_of s) t
@@ -66,7 +69,8 @@ module _ (slots : ℕ) (c : Cells) (kind : Kind) (ps : Pairs) (few : slots ≤ 6
   pub left_of : (q : ℕ) (s : Side) (n : ℕ) (l r : Tree) → HoleAt q s (Fork n l r) → k < c n KeyField → HoleAt n Left l
   left_of q s n l r h less = left_hole kind slots c ps tree.tree k q (link_of s) n l r tree.rising less h
 
-  pub right_of : (q : ℕ) (s : Side) (n : ℕ) (l r : Tree) → HoleAt q s (Fork n l r) → c n KeyField < k → HoleAt n Right r
+  pub right_of : (q : ℕ) (s : Side) (n : ℕ) (l r : Tree) → HoleAt q s (Fork n l r) → c n KeyField < k
+      → HoleAt n Right r
   right_of q s n l r h more = right_hole kind slots c ps tree.tree k q (link_of s) n l r tree.rising more h
 
   -- the turns of a walk below a link, where so many come after it
@@ -107,15 +111,18 @@ module _ (slots : ℕ) (c : Cells) (kind : Kind) (ps : Pairs) (few : slots ≤ 6
 
     module _
         -- what the plan does at a node whose key it was told, with at most three more reads there
-        (at_node : (d : D) (q : ℕ) (s : Side) (n : ℕ) (l r : Tree) (h : HoleAt q s (Fork n l r)) → Good d q s (Fork n l r) h
+        (at_node : (d : D) (q : ℕ) (s : Side) (n : ℕ) (l r : Tree) (h : HoleAt q s (Fork n l r))
+        → Good d q s (Fork n l r) h
         → (past : List Event) (turns : ℕ) → after ≤ turns → IsUnseen l past → IsUnseen r past
         → GoesLeft turns q s n l r h → GoesRight turns q s n l r h
         → Goes (suc (suc (suc turns))) past (walked d (walk_at (left_node q s) n Choice) (Here (c n KeyField))))
         -- and at a link that names no node
-        (at_end : (d : D) (q : ℕ) (s : Side) (a : Above) (h : HoleAt q s Empty) → Good d q s Empty h → (past : List Event)
+        (at_end : (d : D) (q : ℕ) (s : Side) (a : Above) (h : HoleAt q s Empty) → Good d q s Empty h
+        → (past : List Event)
         → Goes after past (walked d (walk_at a q (Link s)) (Missing s (c q (link_of s))))) where
       -- below a link of a node that it has come to
-      walk_on : (t : Tree) (d : D) (q : ℕ) (s : Side) (a : Above) (past : List Event) (h : HoleAt q s t) → Good d q s t h
+      walk_on : (t : Tree) (d : D) (q : ℕ) (s : Side) (a : Above) (past : List Event) (h : HoleAt q s t)
+          → Good d q s t h
           → IsUnseen t past → Goes (walk_turns after t) past (walking d (walk_at a q (Link s)), AskRead q (link_of s))
       walk_on Empty d q s a past h good unseen =
           let w : Walk = walk_at a q (Link s) in
@@ -125,7 +132,8 @@ module _ (slots : ℕ) (c : Cells) (kind : Kind) (ps : Pairs) (few : slots ≤ 6
           let next : moves (walking d w) (Number x) ≡ walked d w (Missing s x)
           = moved d w (Number x) ∙ ap (λ (y : Walk × Step). walked d y.0 y.1) step in
           let last : Goes after (found q (link_of s) x ∷ past) (moves (walking d w) (Number x))
-          = subst (Goes after (found q (link_of s) x ∷ past)) (sym next) (at_end d q s a h good (found q (link_of s) x ∷ past)) in
+          = subst (Goes after (found q (link_of s) x ∷ past)) (sym next) (at_end d q s a h good
+          (found q (link_of s) x ∷ past)) in
           (h.node, last)
       walk_on (Fork n l r) d q s a past h good unseen =
           let f : Field = link_of s in
@@ -147,11 +155,13 @@ module _ (slots : ℕ) (c : Cells) (kind : Kind) (ps : Pairs) (few : slots ≤ 6
           let named : node_at x ≡ Some n = ap node_at h.spelled.0 ∙ node_at-node n (omega arith) (omega arith) in
           let rest : ℕ = max (walk_turns after l) (walk_turns after r) in
           let step1 : walk_step w (Number x) ≡ (w1, Visit n)
-          = ap (following w s x) named ∙ cond-false (has n (q ∷ 1 ∷ [])) (w, Astray) (w1, Visit n) (not_back n q not_q not_1) in
+          = ap (following w s x) named ∙ cond-false (has n (q ∷ 1 ∷ [])) (w, Astray) (w1, Visit n)
+          (not_back n q not_q not_1) in
           let next1 : moves (walking d w) (Number x) ≡ (walking d w1, AskVisit n)
           = moved d w (Number x) ∙ ap (λ (y : Walk × Step). walked d y.0 y.1) step1 ∙ visits d w1 n in
           let step2 : walk_step w1 (Version v) ≡ (w2, Read n KeyField)
-          = cond-false (n == 1) (reading_link (at_version w1 v w1.awaited) Left) (w2, Read n KeyField) (ne_eqb n 1 not_1) in
+          = cond-false (n == 1) (reading_link (at_version w1 v w1.awaited) Left) (w2, Read n KeyField)
+          (ne_eqb n 1 not_1) in
           let next2 : moves (walking d w1) (Version v) ≡ (walking d w2, AskRead n KeyField)
           = moved d w1 (Version v) ∙ ap (λ (y : Walk × Step). walked d y.0 y.1) step2 ∙ reads d w2 n KeyField in
           let next3 : moves (walking d w2) (Number key) ≡ walked d w3 (Here key) = moved d w2 (Number key) in
@@ -200,10 +210,14 @@ module _ (slots : ℕ) (c : Cells) (kind : Kind) (ps : Pairs) (few : slots ≤ 6
           let go2 : Goes (walk_turns after t) past1 (moves (walking d w1) (Version v))
           = subst (Goes (walk_turns after t) past1) (sym next2) go in
           let go1 : Goes (suc (walk_turns after t)) [] (moves (walking d w0) Begin)
-          = subst (Goes (suc (walk_turns after t)) []) (sym next1) (((omega arith, omega arith), tree.unmarked, refl), go2) in
+          = subst (Goes (suc (walk_turns after t)) []) (sym next1) (
+            ((omega arith, omega arith), tree.unmarked, refl),
+            go2,
+          ) in
           let few_turns : walk_turns after t ≤ 6 * size_of t + suc after = walk_turns_few after t in
           let size : size_of t ≤ slots = search_tree_size kind slots c ps tree in
-          more_turns slots c moves Wanted (suc (walk_turns after t)) (6 * slots + (after + 3)) (moves (walking d w0) Begin).1 []
+          more_turns slots c moves Wanted (suc (walk_turns after t)) (6 * slots + (after + 3))
+          (moves (walking d w0) Begin).1 []
           (moves (walking d w0) Begin).0 (omega arith) go1
 
   -- For a plan that keeps nothing on its way and stops at its key: what it does there, and at the walk's end.
@@ -214,36 +228,60 @@ module _ (slots : ℕ) (c : Cells) (kind : Kind) (ps : Pairs) (few : slots ≤ 6
       (reads : (w : Walk) (n : ℕ) (f : Field) → walked w (Read n f) ≡ (walking w, AskRead n f))
       (passes : (w : Walk) (x : ℕ) → w.key ≢ x → walked w (Here x) ≡ (walking (on_way w x), AskRead w.node (way w x)))
       (after : ℕ)
-      (at_key : (q : ℕ) (s : Side) (n : ℕ) (l r : Tree) → HoleAt q s (Fork n l r) → k ≡ c n KeyField → (past : List Event)
+      (at_key : (q : ℕ) (s : Side) (n : ℕ) (l r : Tree) → HoleAt q s (Fork n l r) → k ≡ c n KeyField
+      → (past : List Event)
       → IsUnseen l past → IsUnseen r past
-      → Course slots c moves Wanted (walked (walk_at (left_node q s) n Choice) (Here (c n KeyField))).1 after past (walked (walk_at (left_node q s) n Choice) (Here (c n KeyField))).0)
+      → Course slots c moves Wanted (walked (walk_at (left_node q s) n Choice) (Here (c n KeyField))).1 after past
+      (walked (walk_at (left_node q s) n Choice) (Here (c n KeyField))).0)
       (at_end : (q : ℕ) (s : Side) (a : Above) → HoleAt q s Empty → (past : List Event)
-      → Course slots c moves Wanted (walked (walk_at a q (Link s)) (Missing s (c q (link_of s)))).1 after past (walked (walk_at a q (Link s)) (Missing s (c q (link_of s)))).0) where
+      → Course slots c moves Wanted (walked (walk_at a q (Link s)) (Missing s (c q (link_of s)))).1 after past
+      (walked (walk_at a q (Link s)) (Missing s (c q (link_of s)))).0) where
     abbrev To : ℕ → List Event → P × Ask → Type 0
     To turns past s = Course slots c moves Wanted s.1 turns past s.0
 
     abbrev Nothing : (d : Unit {0}) (q : ℕ) (s : Side) (t : Tree) → HoleAt q s t → Type 0
     Nothing d q s t h = Unit {0}
 
-    pub walk_to_key : Course slots c moves Wanted (moves (walking (walk_of k)) Begin).1 (6 * slots + (after + 3)) [] (moves (walking (walk_of k)) Begin).0
-    walk_to_key = walk_course moves Wanted (λ d w. walking w) (λ d w s. walked w s) (λ d w t. moved w t) (λ d w n. visits w n) (λ d w n f. reads w n f)
+    pub walk_to_key : Course slots c moves Wanted (moves (walking (walk_of k)) Begin).1 (6 * slots + (after + 3)) []
+        (moves (walking (walk_of k)) Begin).0
+    walk_to_key = walk_course moves Wanted (λ d w. walking w) (λ d w s. walked w s) (λ d w t. moved w t)
+        (λ d w n. visits w n) (λ d w n f. reads w n f)
         Nothing after
         (λ d q s n l r h good past turns le unseen_l unseen_r to_left to_right.
         let w : Walk = walk_at (left_node q s) n Choice in
         let x : ℕ = c n KeyField in
         ⊎_elim
-        (λ e. more_turns slots c moves Wanted after (suc (suc (suc turns))) (walked w (Here x)).1 past (walked w (Here x)).0 (omega arith)
+        (λ e. more_turns slots c moves Wanted after (suc (suc (suc turns))) (walked w (Here x)).1 past
+        (walked w (Here x)).0 (omega arith)
         (at_key q s n l r h e past unseen_l unseen_r))
         (λ apart. ⊎_elim
         (λ less. let next : walked w (Here x) ≡ (walking (walk_at (left_node q s) n (Link Left)), AskRead n LeftLink)
-        = passes w x (λ e. absurd (omega arith)) ∙ (λ i. (walking (walk_at (left_node q s) n (Link (toward_left k x less i))), AskRead n (link_of (toward_left k x less i)))) in
-        let on : To turns past (walking (walk_at (left_node q s) n (Link Left)), AskRead n LeftLink) = to_left tt less past tt unseen_l in
+        = passes w x (λ e. absurd (omega arith))
+        ∙ (λ i. (
+          walking (walk_at (left_node q s) n (Link (toward_left k x less i))),
+          AskRead n
+              (link_of (toward_left k x less i)),
+        )) in
+        let on : To turns past (walking (walk_at (left_node q s) n (Link Left)), AskRead n LeftLink)
+        = to_left tt less past tt unseen_l in
         subst (To (suc (suc (suc turns))) past) (sym next)
-        (more_turns slots c moves Wanted turns (suc (suc (suc turns))) (AskRead n LeftLink) past (walking (walk_at (left_node q s) n (Link Left))) (omega arith) on))
-        (λ more. let le : x ≤ k = omega arith in let next : walked w (Here x) ≡ (walking (walk_at (left_node q s) n (Link Right)), AskRead n RightLink)
-        = passes w x (λ e. absurd (omega arith)) ∙ (λ i. (walking (walk_at (left_node q s) n (Link (toward_right k x le i))), AskRead n (link_of (toward_right k x le i)))) in
-        let on : To turns past (walking (walk_at (left_node q s) n (Link Right)), AskRead n RightLink) = to_right tt more past tt unseen_r in
+        (more_turns slots c moves Wanted turns (suc (suc (suc turns))) (AskRead n LeftLink) past
+        (walking (walk_at (left_node q s) n (Link Left))) (omega arith) on))
+        (λ more. let le : x ≤ k = omega arith in let next : walked w (Here x) ≡ (
+          walking (walk_at (left_node q s) n
+              (Link Right)),
+          AskRead n RightLink,
+        )
+        = passes w x (λ e. absurd (omega arith))
+        ∙ (λ i. (
+          walking (walk_at (left_node q s) n (Link (toward_right k x le i))),
+          AskRead n
+              (link_of (toward_right k x le i)),
+        )) in
+        let on : To turns past (walking (walk_at (left_node q s) n (Link Right)), AskRead n RightLink)
+        = to_right tt more past tt unseen_r in
         subst (To (suc (suc (suc turns))) past) (sym next)
-        (more_turns slots c moves Wanted turns (suc (suc (suc turns))) (AskRead n RightLink) past (walking (walk_at (left_node q s) n (Link Right))) (omega arith) on))
+        (more_turns slots c moves Wanted turns (suc (suc (suc turns))) (AskRead n RightLink) past
+        (walking (walk_at (left_node q s) n (Link Right))) (omega arith) on))
         apart) (cases_order k x))
         (λ d q s a h good past. at_end q s a h past) tt tt

@@ -2,7 +2,8 @@
 use Rattle.pc_plan.specs.declared.plan.Ask.{Ask}
 use Rattle.pc_plan.specs.declared.plan.Ask.TheVariants.{Visit, Read, Change, Answer}
 use Rattle.pc_plan.specs.declared.plan.Turn.{Turn}
-use Rattle.pc_plan.specs.declared.plan.Turn.TheVariants.{Visit as ToVisit, Read as ToRead, Change as ToChange, Answer as ToAnswer}
+use Rattle.pc_plan.specs.declared.plan.Turn.TheVariants.{Visit as ToVisit, Read as ToRead, Change as ToChange}
+use Rattle.pc_plan.specs.declared.plan.Turn.TheVariants.{Answer as ToAnswer}
 use Rattle.pc_plan.specs.Planned.{Planned}
 
 abbrev pub asked : Turn → Planned → Ask

@@ -40,10 +40,13 @@ module _ {P C : Type 0} (start : C → P) (moves : P → Told → P × Ask) wher
 
   pub record ExchangesFit (can_call : C → Type 0) (terms : C → Terms) (form : Form) : Type 0 where
     pub fits : (slots : ℕ) (call : C) (ts : List Told) (p : Planned) (slot version : ℕ) → slots ≤ 61000 → can_call call
-        → Asks call ts (Change p) → HasSlot slots p slot → Fits form slots (asked_exchange call ts p slot version) p.charged
-    pub settles : (slots : ℕ) (call : C) (ts : List Told) (p : Planned) (slot version : ℕ) → slots ≤ 61000 → can_call call
+        → Asks call ts (Change p) → HasSlot slots p slot → Fits form slots (asked_exchange call ts p slot version)
+        p.charged
+    pub settles : (slots : ℕ) (call : C) (ts : List Told) (p : Planned) (slot version : ℕ) → slots ≤ 61000
+        → can_call call
         → Asks call ts (Change p) → HasSlot slots p slot
-        → MaySettle form slots (asked_exchange call ts p slot version) p.charged (terms call).lower ((terms call).settles p.reply)
+        → MaySettle form slots (asked_exchange call ts p slot version) p.charged (terms call).lower
+        ((terms call).settles p.reply)
     pub read_settles : (slots : ℕ) (call : C) (ts : List Told) (r : Reply) → slots ≤ 61000 → can_call call
         → Asks call ts (Answer r)
         → MaySettle form slots (read_of (past_of start moves call ts)) [] (terms call).lower ((terms call).settles r)

@@ -1,6 +1,7 @@
 -- The law of a plan whatever it is told: it begins with a visit, visits the sentinel and nodes that it
 -- was told of, reads what it visited, at most eight times a visit, and changes what it was told.
-use Rattle.std.specs.Prelude.{◌≡◌, ◌≢◌, ℕ, ◌+◌, ◌^◌, ◌<◌, ◌≤◌, ◌⊎◌, if◌then◌else◌, List, [], ◌∷◌, length, Option, Some, None, IsSome, IfSome}
+use Rattle.std.specs.Prelude.{◌≡◌, ◌≢◌, ℕ, ◌+◌, ◌^◌, ◌<◌, ◌≤◌, ◌⊎◌, if◌then◌else◌, List, [], ◌∷◌, length, Option, Some}
+use Rattle.std.specs.Prelude.{None, IsSome, IfSome}
 use Rattle.pc_model.specs.declared.cell.Field.{Field}
 use Rattle.pc_model.specs.declared.cell.Field.TheVariants.{Version as VersionField, Left, Right, Parent}
 use Rattle.pc_plan.specs.declared.change.To.{To}

@@ -23,7 +23,13 @@ abbrev pub with_add : Planned → Add → Planned
 with_add p a = record { adds = p.adds ++ a ∷ []; charged = p.charged; fresh = p.fresh; mark = p.mark; reply = p.reply }
 
 abbrev pub with_charge : Planned → ℕ → Planned
-with_charge p k = record { adds = p.adds; charged = p.charged ++ k ∷ []; fresh = p.fresh; mark = p.mark; reply = p.reply }
+with_charge p k = record {
+  adds = p.adds;
+  charged = p.charged ++ k ∷ [];
+  fresh = p.fresh;
+  mark = p.mark;
+  reply = p.reply;
+}
 
 -- the version of a changed node goes up by two
 abbrev pub raised : ℕ → ℕ → Add

@@ -1,9 +1,11 @@
 -- The law of a plan on sound cells: whatever trace agrees with the cells, the plan can go on, it ends
 -- within its bound, and it ends in a right reply, with an exchange that stands, leaves sound cells with the
 -- right pairs, and charges each debt that it brings; and what it settles is charged or isn't in debt then.
-use Rattle.std.specs.Prelude.{◌≡◌, ℕ, ◌+◌, ◌*◌, ◌<◌, ◌≤◌, ◌⊎◌, IsTrue, List, [], map, length, Option, Some, None, IfSome}
+use Rattle.std.specs.Prelude.{◌≡◌, ℕ, ◌+◌, ◌*◌, ◌<◌, ◌≤◌, ◌⊎◌, IsTrue, List, [], map, length, Option, Some, None}
+use Rattle.std.specs.Prelude.{IfSome}
 use Rattle.pc_model.specs.declared.cell.Field.{Field}
-use Rattle.pc_model.specs.declared.cell.Field.TheVariants.{Version as VersionField, Key, Value, Left, Right, Parent, Height, Spare}
+use Rattle.pc_model.specs.declared.cell.Field.TheVariants.{Version as VersionField, Key, Value, Left, Right, Parent}
+use Rattle.pc_model.specs.declared.cell.Field.TheVariants.{Height, Spare}
 use Rattle.pc_model.specs.declared.owed.Settle.{Settle}
 use Rattle.pc_model.specs.declared.owed.Settle.TheVariants.{Nothing, Release, First, Raise}
 use Rattle.pc_model.specs.Map.{Pairs}
@@ -84,7 +86,8 @@ IsRightAsk form slots c ps terms past (Visit n) =
 IsRightAsk form slots c ps terms past (Read n f) = IsNode slots n
 IsRightAsk form slots c ps terms past (Change p) = IsReply (terms.step ps).reply p.reply
     × ((slot : ℕ) → Takes slots c p slot → IsRightChange form slots c past (terms.step ps).pairs p slot
-    × SettlesIn form slots (applied (exchange_of past p slot (c slot VersionField)) c) p.charged terms.lower (terms.settles p.reply))
+    × SettlesIn form slots (applied (exchange_of past p slot (c slot VersionField)) c) p.charged terms.lower
+    (terms.settles p.reply))
 IsRightAsk form slots c ps terms past (Answer r) = IsReply (terms.step ps).reply r
     × ((terms.step ps).pairs ≡ ps) × SettlesIn form slots c [] terms.lower (terms.settles r)
 

@@ -73,7 +73,8 @@ version_seen n (found m f x ∷ past) = version_seen n past
 abbrev pub number_seen : ℕ → Field → List Event → Option ℕ
 number_seen n f [] = None
 number_seen n f (visited m v ∷ past) = if m == n then None else number_seen n f past
-number_seen n f (found m g x ∷ past) = if m == n then (if field_number g == field_number f then Some x else number_seen n f past) else number_seen n f past
+number_seen n f (found m g x ∷ past) = if m == n then (if field_number g == field_number f then Some x else number_seen
+    n f past) else number_seen n f past
 
 -- how many reads there were since the last visit
 abbrev pub reads_since_visit : List Event → ℕ

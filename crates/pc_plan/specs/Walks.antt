@@ -11,7 +11,8 @@ use Rattle.pc_model.specs.declared.cell.Side.{Side}
 use Rattle.pc_model.specs.declared.cell.Side.TheVariants.{Left, Right}
 use Rattle.pc_plan.specs.declared.walk.Above.{Above}
 use Rattle.pc_plan.specs.declared.walk.Awaited.{Awaited}
-use Rattle.pc_plan.specs.declared.walk.Awaited.TheVariants.{Begin as ToBegin, Version as AVersion, Key as AKey, Choice, Link}
+use Rattle.pc_plan.specs.declared.walk.Awaited.TheVariants.{Begin as ToBegin, Version as AVersion, Key as AKey, Choice}
+use Rattle.pc_plan.specs.declared.walk.Awaited.TheVariants.{Link}
 use Rattle.pc_plan.specs.declared.walk.Walk.{Walk}
 use Rattle.pc_plan.specs.declared.walk.Step.{Step}
 use Rattle.pc_plan.specs.declared.walk.Step.TheVariants.{Visit, Read, Here, Missing, Astray}
@@ -62,7 +63,13 @@ abbrev pub left_by : Walk → Side → Above
 left_by w s = record { node = w.node; side = s; version = w.version }
 
 abbrev pub descending : Walk → Side → ℕ → Walk × Step
-descending w s n = visiting (record { key = w.key; node = w.node; awaited = w.awaited; version = w.version; above = left_by w s }) n
+descending w s n = visiting (record {
+  key = w.key;
+  node = w.node;
+  awaited = w.awaited;
+  version = w.version;
+  above = left_by w s;
+}) n
 
 abbrev pub following : Walk → Side → ℕ → Option ℕ → Walk × Step
 following w s link None = (w, Missing s link)
