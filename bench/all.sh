@@ -3,8 +3,8 @@
 # loops, on scripts made by seed. The three run by turns, what they print is compared byte by byte, and one
 # table says how long each took, in processor time.
 #
-#   bash bench/all.sh [ROUNDS] [CASE..]     ROUNDS of each case (21), and a tenth of them of the line, which
-#                                           takes a minute a round; all cases, or these: see cases.py
+#   bash bench/all.sh [ROUNDS] [CASE..]     ROUNDS of each case (21), but a tenth of them of the line, which
+#                                           takes half a minute a round; all cases, or these: see cases.py
 set -eu
 here=$(cd "$(dirname "${BASH_SOURCE[0]}")" && pwd)
 root=$(dirname "$here")

@@ -4,7 +4,8 @@
 
 A time is the processor time of a run, the program's and the system's for it, so that what else runs on the
 machine counts little. All runs are held to one processor. The spread is the distance of the quartiles, in
-hundredths of the median; the ratios are of the medians.
+hundredths of the median. A ratio is the median of the rounds' ratios, since what disturbs a round disturbs
+all programs in it.
 """
 import os
 import statistics
@@ -54,9 +55,9 @@ def rounds_of(programs, scripts, build, rounds):
 def measured(case, programs, build, rounds):
     """The unit, and the numbers of each program: milliseconds of a run, or nanoseconds of a visit."""
     if isinstance(case, Visits):
-        scripts = [written(build, case.name + side, lines) for side, lines in [(" near", case.near), (" far", case.far)]]
-        direct = {name: path for name, path in programs.items() if name != "BTreeMap"}
-        times = rounds_of(direct, scripts, build, rounds)
+        scripts = [written(build, case.name + " near", case.near), written(build, case.name + " far", case.far)]
+        trees = {name: path for name, path in programs.items() if name != "BTreeMap"}
+        times = rounds_of(trees, scripts, build, rounds)
         return "ns", {name: [(far - near) / case.visits * 1e9 for near, far in took] for name, took in times.items()}
     script = written(build, case.name, case.lines)
     times = rounds_of(programs, [script], build, -(-rounds // case.every))
@@ -70,13 +71,17 @@ def spread(numbers):
     return (third - first) / statistics.median(numbers) * 100
 
 
+def ratio(numbers, name, other):
+    if other not in numbers:
+        return "-"
+    return f"{statistics.median(took / base for took, base in zip(numbers[name], numbers[other])):.2f}"
+
+
 def print_rows(case, unit, numbers):
-    medians = {name: statistics.median(took) for name, took in numbers.items()}
     for name, took in numbers.items():
-        ratios = [f"{medians[name] / medians[other]:.2f}" if other in medians else "-" for other in ["BTreeMap", "direct"]]
         print(
-            f"{case.name:14} {name:9} {medians[name]:10.2f} {unit} {min(took):10.2f} {unit} {spread(took):6.1f} %"
-            f" {ratios[0]:>9} {ratios[1]:>7}",
+            f"{case.name:14} {name:9} {statistics.median(took):10.2f} {unit} {min(took):10.2f} {unit}"
+            f" {spread(took):6.1f} % {ratio(numbers, name, 'BTreeMap'):>9} {ratio(numbers, name, 'direct'):>7}",
             flush=True,
         )
 
