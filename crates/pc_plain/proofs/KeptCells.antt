@@ -4,16 +4,17 @@ use Rattle.std.proofs.Common.{◌≡◌, ℕ, zero, suc, ◌+◌, ◌%◌, ◌<�
 use Rattle.std.proofs.lemmas.Bool.{cases_Bool, cases_lt, eqb-true, lt-ltb, le-ltb, cond-true, cond-false, cond_both}
 use Rattle.pc_model.specs.declared.cell.Field.{Field}
 use Rattle.pc_model.specs.declared.cell.Field.TheVariants.{Version, Key, Value, Left, Right, Parent, Height, Spare}
-use Rattle.pc_model.specs.Cells.{Cells, FitsWords, field_number, written, with_node}
+use Rattle.pc_model.specs.Cells.{Cells, field_number, written, with_node}
 use Rattle.pc_model.specs.Exchanges.{with_changes}
 use Rattle.pc_model.proofs.Writes.{same_field}
 use Rattle.pc_plan.specs.declared.change.To.{To}
 use Rattle.pc_plan.specs.declared.change.To.TheVariants.{Number, Fresh as FreshNumber}
 use Rattle.pc_plan.specs.declared.change.Add.{Add}
 use Rattle.pc_plan.specs.declared.change.Fresh.{Fresh}
-use Rattle.pc_plan.specs.Runs.{number_at, change_at, fresh_fields, FitsWord, AreWordsOf, FreshFits}
+use Rattle.pc_plan.specs.Lawful.{FitsWord}
+use Rattle.pc_plan.specs.Runs.{number_at, change_at, fresh_fields}
 use Rattle.pc_plain.specs.PlainCells.{limit, AreBelowLimits, kept, kept_cells}
-use Rattle.pc_plain.specs.PlainWriting.{with_adds}
+use Rattle.pc_plain.specs.PlainWriting.{with_adds, AreWordsOf, FreshFits}
 
 pub kept_small : (x : ℕ) → kept Version x < 1152921504606846970
 kept_small x = cond_both (nat_lt x 1152921504606846970) x (x % 2) (λ y. y < 1152921504606846970)
@@ -100,52 +101,39 @@ below_written n f v c small below m g = cond_both (field_number g == field_numbe
 pub below_node : (slot : ℕ) (fields : Field → ℕ) (c : Cells) → ((f : Field) → fields f < limit f) → AreBelowLimits c → AreBelowLimits (with_node slot fields c)
 below_node slot fields c small below m g = below_cond (m == slot) (fields g) (c m g) (limit g) (small g) (below m g)
 
-word_below : (slot : ℕ) (f : Field) (to : To) → slot < 4294967296 → FitsWord f to → kept f (number_at slot to) < limit f
+-- what a word of an exchange gets stays below its field's limit
+word_below : (slot : ℕ) (f : Field) (to : To) → slot < 4294967296 → FitsWord to → kept f (number_at slot to) < limit f
 word_below slot Version to small fits = kept_small (number_at slot to)
-word_below slot Key (Number x) small fits = fits
+word_below slot Key (Number x) small fits = omega arith
 word_below slot Key FreshNumber small fits = omega arith
-word_below slot Value (Number x) small fits = fits
+word_below slot Value (Number x) small fits = omega arith
 word_below slot Value FreshNumber small fits = omega arith
-word_below slot Left (Number x) small fits = fits
+word_below slot Left (Number x) small fits = omega arith
 word_below slot Left FreshNumber small fits = omega arith
-word_below slot Right (Number x) small fits = fits
+word_below slot Right (Number x) small fits = omega arith
 word_below slot Right FreshNumber small fits = omega arith
-word_below slot Parent (Number x) small fits = fits
+word_below slot Parent (Number x) small fits = omega arith
 word_below slot Parent FreshNumber small fits = omega arith
-word_below slot Height (Number x) small fits = fits
+word_below slot Height (Number x) small fits = omega arith
 word_below slot Height FreshNumber small fits = omega arith
-word_below slot Spare (Number x) small fits = fits
+word_below slot Spare (Number x) small fits = omega arith
 word_below slot Spare FreshNumber small fits = omega arith
 
-pub below_adds : (slots slot : ℕ) (adds : List Add) (c : Cells) → slot < 4294967296 → AreWordsOf slots adds → AreBelowLimits c → AreBelowLimits (with_adds slot adds c)
+pub below_adds : (slots slot : ℕ) (adds : List Add) (c : Cells) → slot < 4294967296 → AreWordsOf slots adds
+    → AreBelowLimits c → AreBelowLimits (with_adds slot adds c)
 below_adds slots slot [] c small words below = below
 below_adds slots slot (a ∷ adds) c small words below =
-    below_adds slots slot adds (written a.node a.field (kept a.field (number_at slot a.new)) c) small words.1
-    (below_written a.node a.field (kept a.field (number_at slot a.new)) c (word_below slot a.field a.new small words.0.1) below)
+    let x : ℕ = kept a.field (number_at slot a.new) in
+    below_adds slots slot adds (written a.node a.field x c) small words.1
+    (below_written a.node a.field x c (word_below slot a.field a.new small words.0.1) below)
 
-pub fresh_below : (slots version : ℕ) (fresh : Fresh) → FreshFits slots fresh → fresh.parent < 4294967296 → (f : Field) → kept f (fresh_fields version fresh f) < limit f
-fresh_below slots version fresh fits parent Version = kept_small (version + 1)
-fresh_below slots version fresh fits parent Key = fits.0
-fresh_below slots version fresh fits parent Value = fits.1
-fresh_below slots version fresh fits parent Left = omega arith
-fresh_below slots version fresh fits parent Right = omega arith
-fresh_below slots version fresh fits parent Parent = omega arith
-fresh_below slots version fresh fits parent Height = fits.2
-fresh_below slots version fresh fits parent Spare = omega arith
-
-below_words : (f : Field) (x : ℕ) → x < limit f → x < 4611686018427387904
-below_words Version x h = omega arith
-below_words Key x h = h
-below_words Value x h = h
-below_words Left x h = h
-below_words Right x h = h
-below_words Parent x h = h
-below_words Height x h = h
-below_words Spare x h = h
-
--- cells below their limits fit
-pub fits_words : (slots : ℕ) (c : Cells) → AreBelowLimits c → FitsWords slots c
-fits_words slots c below = record {
-  words = λ n f _. below_words f (c n f) (below n f);
-  versions = λ n _. let h : c n Version < 1152921504606846970 = below n Version in omega arith;
-}
+pub fresh_below : (version : ℕ) (fresh : Fresh) → FreshFits fresh → fresh.parent < 4294967296 → (f : Field)
+    → kept f (fresh_fields version fresh f) < limit f
+fresh_below version fresh fits parent Version = kept_small (version + 1)
+fresh_below version fresh fits parent Key = omega (arith, fits.key)
+fresh_below version fresh fits parent Value = omega (arith, fits.value)
+fresh_below version fresh fits parent Left = omega arith
+fresh_below version fresh fits parent Right = omega arith
+fresh_below version fresh fits parent Parent = omega arith
+fresh_below version fresh fits parent Height = omega (arith, fits.height)
+fresh_below version fresh fits parent Spare = omega arith

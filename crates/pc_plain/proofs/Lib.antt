@@ -1,7 +1,10 @@
+pub mod AgreeingTraces
 pub mod FreeSlots
 pub mod KeptCells
+pub mod LawfulExchanges
 pub mod Listing
 pub mod Making
 pub mod Opening
+pub mod QuietPlans
 pub mod RunRight
 pub mod TraceSteps

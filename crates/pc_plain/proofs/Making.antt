@@ -10,10 +10,10 @@ use Rattle.pc_model.proofs.Counting.{count-append, length-le-slots}
 use Rattle.pc_plan.specs.declared.change.Add.{Add}
 use Rattle.pc_plan.specs.declared.change.Fresh.{Fresh}
 use Rattle.pc_plan.specs.Planned.{Planned}
-use Rattle.pc_plan.specs.Runs.{Takes, AreWordsOf, FreshFits, fresh_at, fresh_fields, taken_by, slot_taken, is_slot, parity_after}
+use Rattle.pc_plan.specs.SlotsAfter.{is_node, taken_by, parity_after}
+use Rattle.pc_plan.specs.Runs.{Takes, fresh_at, fresh_fields}
 use Rattle.pc_plain.specs.PlainCells.{PlainWords, cells_in, cells_of, AreBelowLimits, is_free, IsSoundPlain, kept, kept_cells}
-use Rattle.pc_plain.specs.PlainRuns.{IsFitting, CanMake, IsMade, changed_cells}
-use Rattle.pc_plain.specs.PlainWriting.{with_adds, AddsReach, TakesSlot}
+use Rattle.pc_plain.specs.PlainWriting.{with_adds, AddsReach, TakesSlot, changed_cells, AreWordsOf, FreshFits, IsFitting, CanMake, IsWritten}
 use Rattle.pc_plain.proofs.KeptCells.{kept_same, kept_node, kept_adds, kept_parity, below_node, below_adds, fresh_below}
 use Rattle.pc_plain.proofs.FreeSlots.{last_counted}
 
@@ -44,11 +44,11 @@ allowed_at slots words free rest capacity (Some f) slot sound taken =
     let once : count slot free ≡ one_if (is_free slots (cells_in words) slot) = sound.free_once slot in
     free_slot slots (cells_in words) slot (one_if_true (is_free slots (cells_in words) slot) (omega arith))
 
-counted_one : (mark : Option ℕ) (n : ℕ) → count n (option_to_list mark) ≡ one_if (is_slot mark n)
+counted_one : (mark : Option ℕ) (n : ℕ) → count n (option_to_list mark) ≡ one_if (is_node mark n)
 counted_one None n = refl
 counted_one (Some m) n = omega arith
 
-marked_slot : (slots : ℕ) (c : Cells) (mark : Option ℕ) (n : ℕ) → IfSome mark (λ m. IsSlot slots m × IsEven (c m Version)) → is_slot mark n ≡ true → IsSlot slots n × IsEven (c n Version)
+marked_slot : (slots : ℕ) (c : Cells) (mark : Option ℕ) (n : ℕ) → IfSome mark (λ m. IsSlot slots m × IsEven (c m Version)) → is_node mark n ≡ true → IsSlot slots n × IsEven (c n Version)
 marked_slot slots c None n marked e = absurd (cc)
 marked_slot slots c (Some m) n marked e = subst (λ (x : ℕ). IsSlot slots x × IsEven (c x Version)) (eqb-true m n e) marked
 
@@ -65,32 +65,32 @@ count_after k x false false h even = h
 -- how often a number stands in the stack after a slot is taken and another is given
 counts_after : (slots : ℕ) (words words' free rest : List ℕ) (capacity : ℕ) (taken mark : Option ℕ) → IsSoundPlain slots words free capacity
     → free ≡ rest ++ option_to_list taken → IfSome mark (λ m. IsSlot slots m × IsEven (cells_in words m Version))
-    → ((n : ℕ) → IsSlot slots n → cells_in words' n Version % 2 ≡ (if is_slot mark n then 1 else if is_slot taken n then 0 else cells_in words n Version % 2))
+    → ((n : ℕ) → IsSlot slots n → cells_in words' n Version % 2 ≡ (if is_node mark n then 1 else if is_node taken n then 0 else cells_in words n Version % 2))
     → (n : ℕ) → count n (rest ++ option_to_list mark) ≡ one_if (is_free slots (cells_in words') n)
 counts_after slots words words' free rest capacity taken mark sound split marked parity n =
     let x : ℕ = cells_in words n Version % 2 in
     let x' : ℕ = cells_in words' n Version % 2 in
     let k : ℕ = count n rest in
-    let before : count n free ≡ k + one_if (is_slot taken n) = ap (count n) split ∙ count-append n rest (option_to_list taken) ∙ ap (λ (y : ℕ). k + y) (counted_one taken n) in
-    let after : count n (rest ++ option_to_list mark) ≡ k + one_if (is_slot mark n) = count-append n rest (option_to_list mark) ∙ ap (λ (y : ℕ). k + y) (counted_one mark n) in
+    let before : count n free ≡ k + one_if (is_node taken n) = ap (count n) split ∙ count-append n rest (option_to_list taken) ∙ ap (λ (y : ℕ). k + y) (counted_one taken n) in
+    let after : count n (rest ++ option_to_list mark) ≡ k + one_if (is_node mark n) = count-append n rest (option_to_list mark) ∙ ap (λ (y : ℕ). k + y) (counted_one mark n) in
     let once : count n free ≡ one_if (is_free slots (cells_in words) n) = sound.free_once n in
     after ∙ ⊎_elim
     (λ e.
     let s : IsSlot slots n = numbered_slot slots n e in
     let was : is_free slots (cells_in words) n ≡ (x == 1) = ap (λ (b : Bool). b && (x == 1)) e in
     let is : is_free slots (cells_in words') n ≡ (x' == 1) = ap (λ (b : Bool). b && (x' == 1)) e in
-    let sum : k + one_if (is_slot taken n) ≡ one_if (x == 1) = sym before ∙ once ∙ ap one_if was in
-    let step : k + one_if (is_slot mark n) ≡ one_if ((cond (is_slot mark n) 1 (cond (is_slot taken n) 0 x)) == 1)
-    = count_after k x (is_slot mark n) (is_slot taken n) sum (λ m. (marked_slot slots (cells_in words) mark n marked m).1) in
+    let sum : k + one_if (is_node taken n) ≡ one_if (x == 1) = sym before ∙ once ∙ ap one_if was in
+    let step : k + one_if (is_node mark n) ≡ one_if ((cond (is_node mark n) 1 (cond (is_node taken n) 0 x)) == 1)
+    = count_after k x (is_node mark n) (is_node taken n) sum (λ m. (marked_slot slots (cells_in words) mark n marked m).1) in
     step ∙ ap (λ (y : ℕ). one_if (y == 1)) (sym (parity n s)) ∙ sym (ap one_if is))
     (λ e.
     let was : is_free slots (cells_in words) n ≡ false = ap (λ (b : Bool). b && (x == 1)) e in
     let is : is_free slots (cells_in words') n ≡ false = ap (λ (b : Bool). b && (x' == 1)) e in
-    let none : k + one_if (is_slot taken n) ≡ 0 = sym before ∙ once ∙ ap one_if was in
-    let unmarked : one_if (is_slot mark n) ≡ 0 = ⊎_elim
+    let none : k + one_if (is_node taken n) ≡ 0 = sym before ∙ once ∙ ap one_if was in
+    let unmarked : one_if (is_node mark n) ≡ 0 = ⊎_elim
     (λ m. let s : is_numbered slots n ≡ true = slot_numbered slots n (marked_slot slots (cells_in words) mark n marked m).0 in let q : true ≡ false = sym s ∙ e in absurd (cc))
-    (λ m. ap one_if m) (cases_Bool (is_slot mark n)) in
-    let z : k + one_if (is_slot mark n) ≡ 0 = omega arith in
+    (λ m. ap one_if m) (cases_Bool (is_node mark n)) in
+    let z : k + one_if (is_node mark n) ≡ 0 = omega arith in
     z ∙ sym (ap one_if is))
     (cases_Bool (is_numbered slots n))
 
@@ -110,14 +110,14 @@ reach_adds slots len [] long words = tt
 reach_adds slots len (a ∷ adds) long words = (let node : IsNode slots a.node = words.0.0 in let top : a.node ≤ slots + 1 = node.1 in omega arith, reach_adds slots len adds long words.1)
 
 below_fresh : (slots : ℕ) (words words' free free' : List ℕ) (fresh : Option Fresh) (slot : ℕ) → AreBelowLimits (cells_in words) → TakesSlot fresh words words' free free' slot
-    → IfSome fresh (FreshFits slots) → AreBelowLimits (cells_in words')
+    → IfSome fresh FreshFits → AreBelowLimits (cells_in words')
 below_fresh slots words words' free free' None slot below takes fits = subst AreBelowLimits (sym (takes.cells ∙ kept_same (cells_in words) below)) below
 below_fresh slots words words' free free' (Some f) slot below takes fits =
     let c : Cells = cells_in words in
     let version : ℕ = c slot Version in
     let e : cells_in words' ≡ with_fresh (Some (record { node = slot; fields = λ g. kept g (fresh_fields version f g) })) c
     = takes.cells ∙ kept_node slot (fresh_fields version f) c ∙ ap (λ (d : Cells). with_fresh (Some (record { node = slot; fields = λ g. kept g (fresh_fields version f g) })) d) (kept_same c below) in
-    subst AreBelowLimits (sym e) (below_node slot (λ g. kept g (fresh_fields version f g)) c (fresh_below slots version f fits takes.parent) below)
+    subst AreBelowLimits (sym e) (below_node slot (λ g. kept g (fresh_fields version f g)) c (fresh_below version f fits takes.parent) below)
 
 module _ (w : PlainWords) (free : List ℕ) (capacity : ℕ) (p : Planned) (sound : IsSoundPlain w.slots w.words free capacity) (can : CanMake w p)
     (words rest : List ℕ) (slot : ℕ) (takes : TakesSlot p.fresh w.words words free rest slot) where
@@ -144,7 +144,7 @@ module _ (w : PlainWords) (free : List ℕ) (capacity : ℕ) (p : Planned) (soun
         ap (λ (x : ℕ). x % 2) e ∙ kept_parity (changed_cells p slot (cells_of w) n Version) ∙ made_fitting.parity n s
 
     made_once : (n : ℕ) → count n (rest ++ option_to_list p.mark) ≡ one_if (is_free w.slots (cells_in words') n)
-    made_once = counts_after w.slots w.words words' free rest capacity (slot_taken p slot) p.mark sound takes.taken made_fitting.marked made_parity
+    made_once = counts_after w.slots w.words words' free rest capacity (taken_by p.fresh slot) p.mark sound takes.taken made_fitting.marked made_parity
 
     made_short : length (rest ++ option_to_list p.mark) ≤ w.slots
     made_short = stack_short w.slots (cells_in words') (rest ++ option_to_list p.mark) made_once
@@ -167,5 +167,5 @@ module _ (w : PlainWords) (free : List ℕ) (capacity : ℕ) (p : Planned) (soun
       room = subst (λ (x : ℕ). w.slots ≤ x) (sym f) sound.room;
     }
 
-    pub made_is : IsMade w (record { slots = w.slots; words = words' }) [] p
+    pub made_is : IsWritten w (record { slots = w.slots; words = words' }) p
     made_is = record { slot = slot; takes = made_allowed; cells = λ n f. ap (λ (d : Cells). d n f) made_cells }

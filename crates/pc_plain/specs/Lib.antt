@@ -2,4 +2,4 @@ pub mod PlainCells
 pub mod PlainPairs
 pub mod PlainRuns
 pub mod PlainWriting
-pub mod RunEnds
+pub mod QuietRuns

@@ -2,13 +2,17 @@
 //! of the slots that are out of use. What a run answers and leaves is what the plan's own law says.
 #![tactic(auto)]
 
+mod laws;
+mod node_store;
+mod node_words;
 mod plain;
 #[cfg(test)]
 mod plain_tests;
 mod run;
 mod tree_pairs;
-mod words;
 
-pub use plain::{NoPlainSlot, PlainCells};
+pub use laws::quiet_plans_change_nothing;
+pub use node_store::NoPlainSlot;
+pub use plain::PlainCells;
 pub use run::run_plan;
 pub use tree_pairs::pairs;

@@ -4,10 +4,8 @@ ghost use Rattle.pc_plain.specs.PlainPairs.{SpellsTree, ArePairsOf};
 
 use crate::plain::PlainCells;
 use pc_model::{Field, Memory};
+use pc_plan::SENTINEL;
 use std::alloc::Global;
-
-/// The number of the sentinel. The root is its left child.
-const SENTINEL: u32 = 1;
 
 /// The keys of a plain tree with their values, by rising key.
 pub fn pairs(alloc: Global, cells: &PlainCells) -> Result<Vec<(u64, u64)>, Memory>

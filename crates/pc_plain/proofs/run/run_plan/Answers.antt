@@ -1,19 +1,55 @@
-use Rattle.std.proofs.Common.{[]}
-use Rattle.pc_plain.specs.PlainRuns.{IsMade, RunsRight}
-use Rattle.pc_plain.proofs.RunRight.{comes_to_make, change_right, answer_right, from_reply}
+use Rattle.std.proofs.Common.{IfOk, OnOk, Result, Ok, Err, sym, subst}
+use Rattle.pc_model.specs.declared.call.Reply.{Reply}
+use Rattle.pc_plain.specs.PlainCells.{PlainWords}
+use Rattle.pc_plain.specs.PlainRuns.{HoldsPairs, IsRunOf, RunsRight}
+use Rattle.pc_plain.specs.PlainWriting.{IsWritten}
+use Rattle.pc_plain.proofs.RunRight.{from_reply, comes_to_make, change_run, change_right, from_ok, holds_after}
+use Rattle.pc_plain.proofs.run.run_plan.Given.{Over}
 use Rattle.pc_plain.proofs.run.run_plan.Goals as goal
+use Rattle.pc_plain.proofs.run.run_plan.Goals.{In-None, After-make}
+
+holds : (g : Over) (c : In-None g) → HoldsPairs g.P.Plan.form c.cells.inside.nodes
+holds g c = subst (HoldsPairs g.P.Plan.form) (sym c.cells.view_is) c.requires.sound
+
+-- the exchange was written in the nodes
+abbrev Writes : (g : Over) → After-make g → Type 0
+Writes g c = IsWritten c.cells.inside.nodes c.make.new.self c.end_of.new.change
+
+-- what is said of a reply where the exchange was written, at the old cells
+by_writing : (g : Over) (c : After-make g) (Q : PlainWords → Reply → Type 0)
+    → (Writes g c → Q c.cells.inside.nodes c.end_of.new.change.reply) → IfOk c.make.result (Q c.args.cells.now)
+by_writing g c Q q =
+    subst (λ (w : PlainWords). IfOk c.make.result (Q w)) c.cells.view_is
+    (from_reply c.make.result c.end_of.new.change.reply (Writes g c) (Q c.cells.inside.nodes) c.make.ensures.reply c.make.ensures.made q)
 
 pub make-requires : goal.make-requires
-make-requires g c = comes_to_make g.P.Plan.start g.P.Plan.moves g.P.Plan.can_call g.P.Plan.call_of g.P.Plan.sound g.met.P.Plan.runs c.args.cells.now c.in-Change.ensures.few c.in-Change.ensures.fits c.args.call c.requires.call
-    c.in-Change.change c.in-Change.ensures.comes c.requires.sound.0 c.requires.sound.1
+make-requires g c =
+    comes_to_make g.P.Plan.start g.P.Plan.moves g.P.Plan.can_call g.P.Plan.terms g.P.Plan.form g.met.P.Plan.laws
+    c.cells.inside.nodes c.end_of.ensures.few c.end_of.ensures.fit c.args.call c.requires.call
+    c.end_of.new.change c.in-None.ensures.comes (holds g (goal.at.make-requires g c).In-None)
 
-pub returns-in-Change-clause-right : goal.returns-in-Change-clause-right
-returns-in-Change-clause-right g c =
-    from_reply c.make.result c.in-Change.change.reply (IsMade c.args.cells.now c.make.new.self [] c.in-Change.change) (RunsRight g.P.Plan.sound (g.P.Plan.call_of c.args.call) c.args.cells.now c.make.new.self) c.make.ensures.reply c.make.ensures.made
-    (change_right g.P.Plan.start g.P.Plan.moves g.P.Plan.can_call g.P.Plan.call_of g.P.Plan.sound g.met.P.Plan.runs c.args.cells.now c.in-Change.ensures.few c.in-Change.ensures.fits c.args.call c.requires.call
-    c.in-Change.change c.make.new.self c.in-Change.ensures.comes g.met.P.Plan.parity c.make.ensures.size)
+pub returns-in-None-clause-run : goal.returns-in-None-clause-run
+returns-in-None-clause-run g c =
+    let at : After-make g = (goal.at.returns-in-None-clause-run g c).After-make in
+    by_writing g at (λ w. IsRunOf g.P.Plan.start g.P.Plan.moves g.P.Plan.form c.args.call w c.make.new.self)
+    (λ written. change_run g.P.Plan.start g.P.Plan.moves g.P.Plan.can_call g.P.Plan.terms g.P.Plan.form g.met.P.Plan.laws
+    c.cells.inside.nodes c.end_of.ensures.few c.end_of.ensures.fit c.args.call c.requires.call
+    c.end_of.new.change c.in-None.ensures.comes c.make.new.self c.make.ensures.size written
+    (holds g (goal.at.returns-in-None-clause-run g c).In-None))
 
-pub returns-in-Answer-clause-right : goal.returns-in-Answer-clause-right
-returns-in-Answer-clause-right g c =
-    answer_right g.P.Plan.start g.P.Plan.moves g.P.Plan.can_call g.P.Plan.call_of g.P.Plan.sound g.met.P.Plan.runs c.args.cells.now c.in-Answer.ensures.few c.in-Answer.ensures.fits c.args.call c.requires.call
-    c.in-Answer.reply c.in-Answer.ensures.comes
+right : (g : Over) (c : After-make g) → IfOk c.make.result (RunsRight g.P.Plan.form (g.P.Plan.terms c.args.call) c.args.cells.now c.make.new.self)
+right g c =
+    by_writing g c (λ w. RunsRight g.P.Plan.form (g.P.Plan.terms c.args.call) w c.make.new.self)
+    (λ written. change_right g.P.Plan.start g.P.Plan.moves g.P.Plan.can_call g.P.Plan.terms g.P.Plan.form g.met.P.Plan.laws
+    c.cells.inside.nodes c.end_of.ensures.few c.end_of.ensures.fit c.args.call c.requires.call
+    c.end_of.new.change c.in-None.ensures.comes c.make.new.self c.make.ensures.size written)
+
+pub returns-in-None-clause-right : goal.returns-in-None-clause-right
+returns-in-None-clause-right g c = right g (goal.at.returns-in-None-clause-right g c).After-make
+
+pub returns-in-None-clause-sound : goal.returns-in-None-clause-sound
+returns-in-None-clause-sound g c =
+    let at : After-make g = (goal.at.returns-in-None-clause-sound g c).After-make in
+    from_ok c.make.result (RunsRight g.P.Plan.form (g.P.Plan.terms c.args.call) c.args.cells.now c.make.new.self)
+    (HoldsPairs g.P.Plan.form c.make.new.self) (right g at)
+    (λ reply is. holds_after g.P.Plan.form (g.P.Plan.terms c.args.call) c.args.cells.now c.make.new.self reply is c.requires.sound)

@@ -1,7 +1,7 @@
 use Rattle.std.proofs.Common.{◌≡◌, ℕ, vec_len, vec_capacity}
 use Rattle.pc_model.specs.Counts.{count, one_if}
 use Rattle.pc_plain.proofs.Opening.{is_among_last}
-use Rattle.pc_plain.proofs.words.all_slots.Given as goal
+use Rattle.pc_plain.proofs.node_words.all_slots.Given as goal
 
 abbrev pub invariant-loop-pushed : goal.invariant-loop-pushed
 invariant-loop-pushed l = record {

@@ -1,6 +1,6 @@
 use Rattle.std.proofs.Common.{rules}
 use Rattle.pc_plain.proofs.FreeSlots.{last_counted, takes_slot}
-use Rattle.pc_plain.proofs.words.take_slot.Goals as goal
+use Rattle.pc_plain.proofs.node_words.take_slot.Goals as goal
 
 pub word-version-requires : goal.word-version-requires
 word-version-requires c = c.requires.within c.in_ok-slot.slot (last_counted _ _ _ c.in_ok-slot.ensures.items)

@@ -1,6 +1,6 @@
 use Rattle.pc_plain.specs.PlainCells.{cells_in}
 use Rattle.pc_plain.proofs.KeptCells.{node_written}
-use Rattle.pc_plain.proofs.words.write_fresh.Goals as goal
+use Rattle.pc_plain.proofs.node_words.write_fresh.Goals as goal
 
 pub returns-clause-cells : goal.returns-clause-cells
 returns-clause-cells c =

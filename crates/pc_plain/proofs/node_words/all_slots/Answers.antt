@@ -1,7 +1,7 @@
 use Rattle.std.proofs.Common.{rules, ◌∙◌, ap}
 use Rattle.pc_model.specs.Counts.{count}
 use Rattle.pc_plain.proofs.Opening.{one_pushed}
-use Rattle.pc_plain.proofs.words.all_slots.Goals as goal
+use Rattle.pc_plain.proofs.node_words.all_slots.Goals as goal
 
 pub loop-pushed-preserved : goal.loop-pushed-preserved
 loop-pushed-preserved c = record {

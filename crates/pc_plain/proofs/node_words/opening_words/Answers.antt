@@ -3,7 +3,7 @@ use Rattle.pc_model.specs.Cells.{Cells, written}
 use Rattle.pc_model.specs.declared.cell.Field.TheVariants.{Version, Key}
 use Rattle.pc_plain.specs.PlainCells.{cells_in}
 use Rattle.pc_plain.proofs.Opening.{unused_below, unused_more, opened}
-use Rattle.pc_plain.proofs.words.opening_words.Goals as goal
+use Rattle.pc_plain.proofs.node_words.opening_words.Goals as goal
 
 pub loop-node-preserved : goal.loop-node-preserved
 loop-node-preserved c = record {

@@ -7,14 +7,13 @@ ghost use Rattle.pc_plain.specs.PlainCells.{cells_in, kept};
 ghost use Rattle.pc_plain.specs.PlainWriting.{with_adds, CanTakeSlot, TakesSlot, OpensCells, HasEachSlot, ReachWords, AddsReach};
 
 use pc_model::{Field, Memory};
-use pc_plan::{Add, Fresh, To};
+use pc_plan::{Add, Fresh, SENTINEL, To};
 use std::alloc::Global;
 
 /// From this version on a version is set back.
 const VERSION_LIMIT: u64 = 1152921504606846970;
 
-const SENTINEL: u32 = 1;
-
+/// The key of the sentinel, above every key.
 const SENTINEL_KEY: u64 = 4611686018427387903;
 
 #[inline]

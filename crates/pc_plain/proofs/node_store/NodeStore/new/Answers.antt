@@ -1,5 +1,5 @@
 use Rattle.pc_plain.proofs.Opening.{opening_sound, opening_empty}
-use Rattle.pc_plain.proofs.plain.PlainCells.new.Goals as goal
+use Rattle.pc_plain.proofs.node_store.NodeStore.new.Goals as goal
 
 pub invariant_of-result : goal.invariant_of-result
 invariant_of-result c =

@@ -1,7 +1,7 @@
 use Rattle.std.proofs.Common.{◌≡◌, drop, length}
 use Rattle.pc_plain.specs.PlainCells.{cells_in}
 use Rattle.pc_plain.specs.PlainWriting.{with_adds, AddsReach}
-use Rattle.pc_plain.proofs.words.write_adds.Given as goal
+use Rattle.pc_plain.proofs.node_words.write_adds.Given as goal
 
 abbrev pub invariant-loop-add : goal.invariant-loop-add
 invariant-loop-add l = record {
