@@ -1,6 +1,6 @@
 -- What a trace that agrees with plain cells tells: words, of the kind that was asked for, and of nodes alone
 -- where each ask on the way is for a node.
-use Rattle.std.proofs.Common.{◌≡◌, ℕ, ◌^◌, ◌<◌, ◌==◌, ⊎_elim, true, false, List, [], ◌∷◌, Option, Some, None, sym, ◌∙◌, subst, arith}
+use Rattle.std.proofs.Common.{◌≡◌, ℕ, ◌^◌, ◌<◌, ◌==◌, ⊎_elim, List, [], ◌∷◌, Some, sym, ◌∙◌, subst, arith}
 use Rattle.std.proofs.lemmas.Bool.{cases_eq, eq-eqb, ne_eqb, cond-true, cond-false}
 use Rattle.pc_model.specs.declared.cell.Field.{Field}
 use Rattle.pc_model.specs.declared.cell.Field.TheVariants.{Version as VersionField, Key, Value, Left, Right, Parent, Height, Spare}

@@ -16,7 +16,7 @@ use Rattle.pc_plan.specs.Traces.{Event, version_seen}
 use Rattle.pc_plan.specs.Runs.{number_at, fresh_at, Takes}
 use Rattle.pc_plan.specs.Lawful.{rise_of, IsToldFresh, IsToldWord, AreToldWords, AreFitting, Adds, MarksAlone, IsLawfulChange}
 use Rattle.pc_plan.proofs.Courses.{PastHolds}
-use Rattle.pc_plan.proofs.WrittenWords.{with_words, AddsTo, added_or_not, words_at, words_else}
+use Rattle.pc_plan.proofs.WrittenWords.{AddsTo, added_or_not, words_at, words_else}
 use Rattle.pc_plain.specs.PlainWriting.{changed_cells, AreWordsOf, FreshFits, IsFitting}
 use Rattle.pc_plain.proofs.AgreeingTraces.{AreNodes, IsSeenNode, seen_node}
 

@@ -1,6 +1,6 @@
 -- That a run goes and ends right: from a plan's laws along every trace that agrees with the cells, and from the
 -- exchange that was written.
-use Rattle.std.proofs.Common.{◌≡◌, ◌≢◌, ℕ, ◌+◌, ◌*◌, ◌%◌, ◌<◌, ◌≤◌, List, [], length, Option, Some, None, Result, Ok, Err, IfOk, IfSome, IsSome, OnOk, refl, sym, ap, ◌∙◌, subst}
+use Rattle.std.proofs.Common.{◌≡◌, ◌≢◌, ℕ, ◌+◌, ◌*◌, ◌%◌, ◌<◌, ◌≤◌, List, [], length, Option, Some, None, Result, Ok, Err, IfOk, IfSome, OnOk, refl, sym, ap, ◌∙◌, subst}
 use Rattle.pc_model.specs.declared.call.Reply.{Reply}
 use Rattle.pc_model.specs.declared.cell.Field.{Field}
 use Rattle.pc_model.specs.declared.cell.Field.TheVariants.{Version, Key, Value, Left, Right, Parent, Height, Spare}
@@ -18,12 +18,12 @@ use Rattle.pc_plan.specs.Terms.{Terms}
 use Rattle.pc_plan.specs.Traces.{Event}
 use Rattle.pc_plan.specs.Lawful.{IsLawfulAsk, IsLawfulChange}
 use Rattle.pc_plan.specs.Laws.{PlanLaws}
-use Rattle.pc_plan.specs.Runs.{exchange_of, Takes, SettlesIn, IsRightChange, IsRightAsk, reached, past_of, AgreesWith}
+use Rattle.pc_plan.specs.Runs.{Takes, IsRightChange, IsRightAsk, reached, past_of, AgreesWith}
 use Rattle.pc_plan.proofs.Agreement.{past_by_agreeing}
 use Rattle.pc_plan.proofs.Courses.{PastHolds}
 use Rattle.pc_plan.proofs.FittingPlans.{exchanges_fit}
 use Rattle.pc_plain.specs.PlainCells.{PlainWords, cells_of, AreBelowLimits, kept}
-use Rattle.pc_plain.specs.PlainRuns.{exchange_in, IsMade, HoldsPairs, EndsWith, WantsSlot, AllInUse, ComesTo, IsRunOf, ComesToWantSlot, RunsRight, HasPairPerSlot}
+use Rattle.pc_plain.specs.PlainRuns.{exchange_in, IsMade, HoldsPairs, EndsWith, ComesTo, IsRunOf, RunsRight}
 use Rattle.pc_plain.specs.PlainWriting.{CanMake, IsWritten}
 use Rattle.pc_plain.proofs.AgreeingTraces.{VisitsNode, AreNodes, told_words, told_kinds, visits_nodes}
 use Rattle.pc_plain.proofs.KeptCells.{kept_parity}
@@ -158,23 +158,3 @@ module _ {P C : Type 0} (start : C → P) (moves : P → Told → P × Ask) (can
           (right_change ps sound written.slot written.takes).leaves in
           ((comes_right (Change p) come ps sound).0,
           subst (λ (slots : ℕ). form.sound slots (cells_of new) next) (sym size) left)
-
-  pub answer_run : (r : Reply) → ComesTo start moves w call (Answer r) → IsRunOf start moves form call w w r
-  answer_run r come = (
-    come.0,
-    come.1,
-    subst (EndsWith form w w (past_of start moves call come.0) r) (sym come.2) (refl, refl),
-  )
-
-  pub answer_right : (r : Reply) → ComesTo start moves w call (Answer r) → RunsRight form (terms call) w w r
-  answer_right r come ps sound =
-      let right : IsRightAfter ps come.0 (Answer r) = comes_right (Answer r) come ps sound in
-      (right.0, subst (λ (qs : Pairs). form.sound w.slots (cells_of w) qs) (sym right.1) sound)
-
-  pub comes_to_want : (p : Planned) → ComesTo start moves w call (Change p) → IsSome p.fresh
-      → ComesToWantSlot start moves call w
-  comes_to_want p come some = (come.0, come.1, subst WantsSlot (sym come.2) some)
-
-  -- cells whose slots are all in use have as many pairs as slots
-  pub full_pairs : AllInUse w → HasPairPerSlot form w
-  full_pairs in_use ps sound = laws.form_laws.full w.slots (cells_of w) ps sound in_use

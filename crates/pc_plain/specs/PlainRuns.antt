@@ -4,7 +4,7 @@ use Rattle.pc_model.specs.declared.call.Reply.{Reply}
 use Rattle.pc_model.specs.declared.cell.Field.{Field}
 use Rattle.pc_model.specs.declared.cell.Field.TheVariants.{Version as VersionField}
 use Rattle.pc_model.specs.Map.{Pairs}
-use Rattle.pc_model.specs.Cells.{Cells, IsEven, IsSlot}
+use Rattle.pc_model.specs.Cells.{IsEven, IsSlot}
 use Rattle.pc_model.specs.Exchanges.{Exchange, Stands, applied}
 use Rattle.pc_model.specs.Forms.{Form, IsSound, Fits}
 use Rattle.pc_plan.specs.declared.plan.Ask.{Ask}

@@ -1,7 +1,6 @@
 use Rattle.std.proofs.Common.{◌≡◌, ◌+◌, ◌*◌, ◌<◌, ◌≤◌, ◌∙◌, length, sym, ap, arith}
 use Rattle.pc_plan.specs.Asking.{asked}
 use Rattle.pc_plan.specs.declared.plan.Ask.{Ask}
-use Rattle.pc_plan.specs.declared.plan.Ask.TheVariants.{Visit, Read}
 use Rattle.pc_plan.specs.declared.plan.Told.{Told}
 use Rattle.pc_plan.specs.declared.plan.Told.TheVariants.{Version, Number}
 use Rattle.pc_plan.specs.declared.plan.Turn.{Turn}

@@ -1,4 +1,4 @@
-use Rattle.std.proofs.Common.{IfOk, OnOk, Result, Ok, Err, sym, subst}
+use Rattle.std.proofs.Common.{IfOk, sym, subst}
 use Rattle.pc_model.specs.declared.call.Reply.{Reply}
 use Rattle.pc_plain.specs.PlainCells.{PlainWords}
 use Rattle.pc_plain.specs.PlainRuns.{HoldsPairs, IsRunOf, RunsRight}
