@@ -1,12 +1,14 @@
 -- What the map answers at a hole, and what its pairs are after a put or a removal there.
-use Rattle.std.proofs.Common.{◌≡◌, ℕ, [], ◌∷◌, ◌++◌, Some, None, ap, sym, ◌∙◌, subst}
+use Rattle.std.proofs.Common.{◌≡◌, ℕ, [], ◌∷◌, ◌++◌, Option, Some, None, ap, sym, ◌∙◌, subst}
 use Rattle.pc_model.specs.declared.cell.Field.{Field}
 use Rattle.pc_model.specs.declared.cell.Field.TheVariants.{Key, Value}
-use Rattle.pc_model.specs.Map.{Pairs, IsRising, AreBelow, AreAbove, value_at, put, without}
+use Rattle.pc_model.specs.Map.{Pairs, IsRising, AreBelow, AreAbove, value_at, put, without, ceil_of, floor_of}
+use Rattle.pc_model.specs.Map.{first_of, last_of, found_or}
 use Rattle.pc_model.specs.Cells.{Cells}
 use Rattle.pc_model.specs.Trees.{Tree, Empty, Fork, Kind, pair_of, pairs_of}
 use Rattle.pc_model.proofs.SortedLists.{value_at-between, value_at-found, put-between, put-found, without-between}
-use Rattle.pc_model.proofs.SortedLists.{without-same}
+use Rattle.pc_model.proofs.SortedLists.{without-same, ceil_of-between_both, ceil_of-here, floor_of-between}
+use Rattle.pc_model.proofs.SortedLists.{floor_of-here}
 use Rattle.pc_model.proofs.Framing.{Apart}
 use Rattle.pc_model.proofs.Holes.{Hole, hole_apart}
 
@@ -64,3 +66,31 @@ module _ (kind : Kind) (slots : ℕ) (c : Cells) (ps : Pairs) (whole : Tree) (k 
   -- there is no such key to take out
   pub without-empty_hole : Hole kind slots c ps whole k above side Empty → without k ps ≡ ps
   without-empty_hole h = ap (without k) h.pairs ∙ without-between k h.before [] h.after h.below h.beyond ∙ sym h.pairs
+
+  -- the nearest pair up from the key is in the subtree, or else the first one after it; at an empty hole
+  -- the first one after
+  pub ceil_of-any_hole : (sub : Tree) (h : Hole kind slots c ps whole k above side sub)
+      → ceil_of k ps ≡ found_or (ceil_of k (pairs_of c sub)) (first_of h.after)
+  ceil_of-any_hole sub h =
+      ap (ceil_of k) h.pairs ∙ ceil_of-between_both k h.before (pairs_of c sub) h.after h.below h.beyond
+
+  -- and the nearest one down from it in the subtree, or else the last one before it
+  pub floor_of-any_hole : (sub : Tree) (h : Hole kind slots c ps whole k above side sub)
+      → floor_of k ps ≡ found_or (floor_of k (pairs_of c sub)) (last_of h.before)
+  floor_of-any_hole sub h =
+      ap (floor_of k) h.pairs ∙ floor_of-between k h.before (pairs_of c sub) h.after h.below h.beyond
+
+  -- where the node has the key, both are its own pair
+  pub ceil_of-hole : (n : ℕ) (l r : Tree) → IsRising ps → Hole kind slots c ps whole k above side (Fork n l r)
+      → c n Key ≡ k → ceil_of k ps ≡ Some (pair_of c n)
+  ceil_of-hole n l r rising h e =
+      let a : Apart c n l r = hole_apart kind slots c ps whole k above side n l r rising h in
+      ceil_of-any_hole (Fork n l r) h ∙ ap (λ (o : Option (ℕ × ℕ)). found_or o (first_of h.after))
+      (ceil_of-here k (pairs_of c l) (pair_of c n) (pairs_of c r) a.below (sym e))
+
+  pub floor_of-hole : (n : ℕ) (l r : Tree) → IsRising ps → Hole kind slots c ps whole k above side (Fork n l r)
+      → c n Key ≡ k → floor_of k ps ≡ Some (pair_of c n)
+  floor_of-hole n l r rising h e =
+      let a : Apart c n l r = hole_apart kind slots c ps whole k above side n l r rising h in
+      floor_of-any_hole (Fork n l r) h ∙ ap (λ (o : Option (ℕ × ℕ)). found_or o (last_of h.before))
+      (floor_of-here k (pairs_of c l) (pair_of c n) (pairs_of c r) a.below a.above (sym e))

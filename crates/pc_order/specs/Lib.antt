@@ -1,9 +1,5 @@
-pub mod CallLaws
 pub mod Nearest
-pub mod Ordered
-pub mod OrderedLaws
 pub mod SearchCourses
 pub mod SearchLawful
 pub mod SearchLaws
 pub mod Searches
-pub mod Stays

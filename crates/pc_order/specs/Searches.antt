@@ -1,91 +1,76 @@
--- The walk to a key that remembers the nearest pair on one side of it, as a machine.
-use Rattle.std.specs.Prelude.{ℕ, ◌==◌, nat_lt, nat_le, if◌then◌else◌, Bool, Option, Some, None}
+-- The search on one side of a key, as a machine: its walk to the key remembers each pair that it meets on
+-- that side, so that the last one is the nearest.
+use Rattle.std.specs.Prelude.{ℕ, ◌==◌, nat_le, if◌then◌else◌, Bool, Option, Some, None}
 use Rattle.pc_model.specs.declared.call.Call.{Call}
 use Rattle.pc_model.specs.declared.call.Call.TheVariants.{Ceil, Floor}
 use Rattle.pc_model.specs.declared.call.Reply.{Reply}
-use Rattle.pc_model.specs.declared.call.Reply.TheVariants.{None as NoPair}
-use Rattle.pc_model.specs.declared.cell.Field.{Field}
-use Rattle.pc_model.specs.declared.cell.Field.TheVariants.{Key as KeyField, Value as ValueField, Left, Right}
+use Rattle.pc_model.specs.declared.call.Reply.TheVariants.{None as Nothing, Pair}
+use Rattle.pc_model.specs.declared.cell.Field.TheVariants.{Value as ValueField}
+use Rattle.pc_model.specs.declared.cell.Side.{Side}
+use Rattle.pc_model.specs.declared.cell.Side.TheVariants.{Left, Right}
 use Rattle.pc_model.specs.Map.{pair_or_nothing}
-use Rattle.pc_model.specs.Cells.{node_at}
 use Rattle.pc_plan.specs.declared.plan.Ask.{Ask}
-use Rattle.pc_plan.specs.declared.plan.Ask.TheVariants.{Visit, Read, Answer}
+use Rattle.pc_plan.specs.declared.plan.Ask.TheVariants.{Visit as AskVisit, Read as AskRead, Answer}
 use Rattle.pc_plan.specs.declared.plan.Told.{Told}
-use Rattle.pc_plan.specs.declared.plan.Told.TheVariants.{Begin, Version, Number}
-use Rattle.pc_order.specs.declared.search.Way.{Way}
-use Rattle.pc_order.specs.declared.search.Way.TheVariants.{Up, Down}
-use Rattle.pc_order.specs.declared.search.Awaited.{Awaited}
-use Rattle.pc_order.specs.declared.search.Awaited.TheVariants.{Begin as ToBegin, Version as AVersion, Key as AKey, Value as AValue, Link as ALink, Nothing}
+use Rattle.pc_plan.specs.declared.plan.Told.TheVariants.{Number}
+use Rattle.pc_plan.specs.declared.walk.Walk.{Walk}
+use Rattle.pc_plan.specs.declared.walk.Step.{Step}
+use Rattle.pc_plan.specs.declared.walk.Step.TheVariants.{Visit, Read, Here, Missing, Astray}
+use Rattle.pc_plan.specs.Walks.{walk_of, on_way, way, walk_step}
+use Rattle.pc_order.specs.declared.search.SearchPhase.{SearchPhase}
+use Rattle.pc_order.specs.declared.search.SearchPhase.TheVariants.{Walking, Reading, Ended}
 use Rattle.pc_order.specs.declared.search.Search.{Search}
 
--- whether a node's key lies on this side of the key that is asked for
-abbrev pub is_on : Way → ℕ → ℕ → Bool
-is_on Up k x = nat_le k x
-is_on Down k x = nat_le x k
+-- the call of the map that a search answers
+abbrev pub call_on : Side → ℕ → Call
+call_on Left k = Floor k
+call_on Right k = Ceil k
 
-abbrev pub search_of : Way → ℕ → Search
-search_of way k = record { way = way; key = k; node = 1; nearest = None; awaited = ToBegin }
+-- whether a node's key lies on this side of the key that is asked for, which lies on both
+abbrev pub is_on : Side → ℕ → ℕ → Bool
+is_on Left k x = nat_le x k
+is_on Right k x = nat_le k x
 
-abbrev pub visiting : Search → ℕ → Search × Ask
-visiting s n = (record { way = s.way; key = s.key; node = n; nearest = s.nearest; awaited = AVersion }, Visit n)
+abbrev pub search_at : Side → Walk → SearchPhase → ℕ → Option (ℕ × ℕ) → Search
+search_at side w phase met nearest = record { walk = w; side = side; phase = phase; met = met; nearest = nearest }
 
-abbrev pub reading : Search → Field → Awaited → Search × Ask
-reading s f a = (record { way = s.way; key = s.key; node = s.node; nearest = s.nearest; awaited = a }, Read s.node f)
+abbrev pub search_of : Side → ℕ → Search
+search_of side k = search_at side (walk_of k) Walking 0 None
 
-abbrev pub answering : Search → Reply → Search × Ask
-answering s r = (record { way = s.way; key = s.key; node = s.node; nearest = s.nearest; awaited = Nothing }, Answer r)
+abbrev pub with_walk : Search → Walk → Search
+with_walk s w = search_at s.side w s.phase s.met s.nearest
 
--- at the sentinel the walk goes left, at another node it reads the key
-abbrev pub arriving : Search → Search × Ask
-arriving s = if s.node == 1 then reading s Left (ALink Left) else reading s KeyField AKey
+abbrev pub ended : Search → Reply → Search × Ask
+ended s r = (search_at s.side s.walk Ended s.met s.nearest, Answer r)
 
--- the link on the way to a key: left below a greater key, else right
-abbrev pub toward : ℕ → ℕ → Field
-toward k x = if nat_lt k x then Left else Right
+abbrev pub going_on : Search → ℕ → Search × Ask
+going_on s x = (with_walk s (on_way s.walk x), AskRead s.walk.node (way s.walk x))
 
-abbrev pub going : Search → ℕ → Search × Ask
-going s x = reading s (toward s.key x) (ALink (toward s.key x))
+abbrev pub reading_value : Search → ℕ → Search × Ask
+reading_value s x = (search_at s.side s.walk Reading x s.nearest, AskRead s.walk.node ValueField)
 
--- a pair whose key lies on the side that is searched is remembered, so its value is read
-abbrev pub comparing : Search → ℕ → Search × Ask
-comparing s x = if is_on s.way s.key x then reading s ValueField (AValue x) else going s x
+-- a search whose walk has made a step: the value of a node on its side is read, and where the key is
+-- missing the remembered pair is the answer
+abbrev pub walked : Search → Step → Search × Ask
+walked s (Visit n) = (s, AskVisit n)
+walked s (Read n f) = (s, AskRead n f)
+walked s (Here x) = if is_on s.side s.walk.key x then reading_value s x else going_on s x
+walked s (Missing side link) = ended s (pair_or_nothing s.nearest)
+walked s Astray = ended s Nothing
 
-abbrev pub with_nearest : Search → ℕ → ℕ → Search
-with_nearest s x v = record { way = s.way; key = s.key; node = s.node; nearest = Some (x, v); awaited = s.awaited }
+abbrev pub remembered : Search → ℕ → Search
+remembered s v = search_at s.side s.walk Walking s.met (Some (s.met, v))
 
--- a remembered pair ends the walk where it has the key
-abbrev pub remembering : Search → ℕ → ℕ → Search × Ask
-remembering s x v = if s.key == x then answering (with_nearest s x v) (pair_or_nothing (Some (x, v))) else going (with_nearest s x v) x
+-- a remembered pair ends the search where it has the key
+abbrev pub remembering : Search → ℕ → Search × Ask
+remembering s v = if s.met == s.walk.key
+    then ended (remembered s v) (Pair s.met v)
+    else going_on (remembered s v) s.met
 
--- where a link names no node, the remembered pair is the answer
-abbrev pub following : Search → Option ℕ → Search × Ask
-following s None = answering s (pair_or_nothing s.nearest)
-following s (Some n) = visiting s n
-
-abbrev pub step_at : Search → Awaited → Told → Search × Ask
-step_at s ToBegin Begin = visiting s s.node
-step_at s AVersion (Version v) = arriving s
-step_at s AKey (Number x) = comparing s x
-step_at s (AValue x) (Number v) = remembering s x v
-step_at s (ALink f) (Number link) = following s (node_at link)
-step_at s _ _ = answering s NoPair
+abbrev pub search_told : Search → SearchPhase → Told → Search × Ask
+search_told s Walking t = walked (with_walk s (walk_step s.walk t).0) (walk_step s.walk t).1
+search_told s Reading (Number v) = remembering s v
+search_told s _ _ = ended s Nothing
 
 abbrev pub search_moves : Search → Told → Search × Ask
-search_moves s t = step_at s s.awaited t
-
--- the plans of ceil and of floor
-abbrev pub ceil_start : ℕ → Search
-ceil_start k = search_of Up k
-
-abbrev pub floor_start : ℕ → Search
-floor_start k = search_of Down k
-
-abbrev pub call_on : Way → ℕ → Call
-call_on Up k = Ceil k
-call_on Down k = Floor k
-
-abbrev pub ceil_call : ℕ → Option Call
-ceil_call k = Some (Ceil k)
-
-abbrev pub floor_call : ℕ → Option Call
-floor_call k = Some (Floor k)
+search_moves s t = search_told s s.phase t

@@ -1,13 +1,14 @@
 //! The plan of a floor: the search from its key down.
 ghost use Rattle.std.specs.Prelude.{◌≡◌};
+ghost use Rattle.pc_plan.specs.Asking.{asked};
 
-use crate::search::{Search, Way};
-use pc_model::{Call, Reply, Settle};
-use pc_plan::{Ask, Plan, Told};
+use crate::search::Search;
+use pc_model::{Call, Reply, Settle, Side};
+use pc_plan::{Change, Plan, Told, Turn};
 use std::marker::Model;
 
 /// The plan of a floor.
-#[derive(Drop)]
+#[derive(Debug, Drop)]
 pub struct FloorPlan {
     search: Search,
 }
@@ -21,44 +22,35 @@ impl Model for FloorPlan {
 }
 
 impl Plan for FloorPlan {
-    ghost use Rattle.pc_plan.specs.Lawful.{no_settlement, no_settlement-nothing};
+    ghost use Rattle.pc_model.specs.declared.call.Call.TheVariants.{Floor};
+    ghost use Rattle.pc_model.specs.declared.cell.Side.TheVariants.{Left};
     ghost use Rattle.pc_model.specs.Map.{IsKey};
-    ghost use Rattle.pc_order.specs.Searches.{floor_start, search_moves, floor_call};
-    ghost use Rattle.pc_order.specs.Ordered.{IsOrdered};
-    ghost use Rattle.pc_order.specs.OrderedLaws.{ordered_parity, ordered_full};
-    ghost use Rattle.pc_order.specs.SearchLaws.{floor_runs, floor_lawful};
+    ghost use Rattle.pc_model.specs.TreeForms.{ordered_form};
+    ghost use Rattle.pc_plan.specs.Terms.{map_terms};
+    ghost use Rattle.pc_order.specs.Searches.{search_of, search_moves};
+    ghost use Rattle.pc_order.specs.SearchLaws.{search_laws};
 
     type Call = u64;
 
-    ghost start = { floor_start };
+    ghost start = { search_of Left };
 
     ghost moves = { search_moves };
 
     ghost can_call = { IsKey };
 
-    ghost call_of = { floor_call };
+    ghost terms = { λ k. map_terms (Floor k) };
 
-    ghost settlement = { no_settlement };
+    ghost form = { ordered_form };
 
-    ghost sound = { IsOrdered };
-
-    ghost runs = { floor_runs };
-
-    ghost parity = { ordered_parity };
-
-    ghost full = { ordered_full };
-
-    ghost lawful = { floor_lawful };
-
-    ghost settles_nothing = { no_settlement-nothing floor_call };
+    ghost laws = { search_laws Left };
 
     fn begin(call: u64) -> FloorPlan {
         FloorPlan {
-            search: Search::new(Way::Down, call),
+            search: Search::new(Side::Left, call),
         }
     }
 
-    fn next(&mut self, told: Told) -> Ask {
+    fn step(&mut self, told: Told, _change: &mut Change) -> Turn {
         self.search.step(told)
     }
 

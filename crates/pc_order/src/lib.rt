@@ -6,9 +6,7 @@ mod ceil;
 mod floor;
 mod laws;
 mod search;
-#[cfg(test)]
-mod tests;
 
 pub use ceil::CeilPlan;
 pub use floor::FloorPlan;
-pub use laws::plans_stand_for_their_calls;
+pub use laws::{plans_change_nothing, plans_stand_for_their_calls};

@@ -1,60 +1,50 @@
-//! The walk from the sentinel to a key that remembers the nearest pair on one side of the key: the
-//! machine that both plans of this crate are.
+//! The search on one side of a key: the walk to the key, which remembers each pair that it meets on that
+//! side. The last one is the nearest. The plans of ceil and floor are this machine.
 ghost use Rattle.std.specs.Prelude.{◌≡◌};
-ghost use Rattle.pc_model.specs.Cells.{node_at};
 ghost use Rattle.pc_model.specs.Map.{pair_or_nothing};
-ghost use Rattle.pc_order.specs.Searches.{search_of, search_moves, is_on, visiting, reading, arriving, going, comparing, remembering, answering};
+ghost use Rattle.pc_plan.specs.Asking.{asked};
+ghost use Rattle.pc_plan.specs.Planned.{Planned};
+ghost use Rattle.pc_plan.specs.Walks.{walk_step};
+ghost use Rattle.pc_order.specs.Searches.{is_on, search_of, with_walk, walked, reading_value, remembering, ended, search_moves};
 
-use pc_model::{Field, Reply};
-use pc_plan::{Ask, Told};
+use pc_model::{Field, Reply, Side};
+use pc_plan::{Step, Told, Turn, Walk};
 
-/// The number of the sentinel. The root is its left child.
-const SENTINEL: u32 = 1;
-
-/// The side of a key on which a pair is searched. The key itself lies on both.
-#[derive(Clone, Copy)]
-pub enum Way {
-    /// From the key up.
-    Up,
-    /// From the key down.
-    Down,
+/// Where a search is.
+#[derive(Clone, Copy, Debug, PartialEq, Eq)]
+pub enum SearchPhase {
+    /// On its walk.
+    Walking,
+    /// Waiting for the value of the node that the walk has come to.
+    Reading,
+    /// At its end.
+    Ended,
 }
 
-/// What a search waits to be told.
-#[derive(Clone, Copy)]
-pub enum Awaited {
-    /// To begin.
-    Begin,
-    /// The version of the node that it visits.
-    Version,
-    /// The key of that node.
-    Key,
-    /// The value of that node, which has this key.
-    Value(u64),
-    /// The number in this link of that node.
-    Link(Field),
-    /// Nothing: it has ended.
-    Nothing,
-}
-
-/// A search: the key that it walks to, the node that it has come to, and the nearest pair so far.
-#[derive(Clone, Copy)]
+/// A search on one side of a key.
+#[derive(Debug, Drop)]
 pub struct Search {
-    pub way: Way,
-    pub key: u64,
-    pub node: u32,
+    /// The walk to the key.
+    pub walk: Walk,
+    /// The side of the key on which the nearest pair is searched.
+    pub side: Side,
+    /// Where the search is.
+    pub phase: SearchPhase,
+    /// The key of the last node whose value was asked for.
+    pub met: u64,
+    /// The nearest pair so far.
     pub nearest: Option<(u64, u64)>,
-    pub awaited: Awaited,
 }
 
-/// The node that a link names, if it names one.
-fn node_of(link: u64) -> Option<u32>
-    ensures { result ≡ node_at link }
+/// Whether a node's key lies on this side of the key that is asked for. That key itself lies on both.
+#[inline]
+fn is_on(side: Side, asked: u64, key: u64) -> bool
+    ensures { result ≡ is_on side asked key }
 {
-    if link == 0 || link > 0xffff_ffff {
-        return None;
+    match side {
+        Side::Left => key <= asked,
+        Side::Right => asked <= key,
     }
-    Some(link as u32)
 }
 
 fn reply_of(nearest: Option<(u64, u64)>) -> Reply
@@ -66,110 +56,76 @@ fn reply_of(nearest: Option<(u64, u64)>) -> Reply
     }
 }
 
-impl Way {
-    /// Whether a node's key lies on this side of the key that is asked for.
-    #[inline]
-    fn has(self, asked: u64, key: u64) -> bool
-        ensures { result ≡ is_on self asked key }
-    {
-        match self {
-            Way::Up => asked <= key,
-            Way::Down => key <= asked,
-        }
-    }
-}
-
 impl Search {
     /// The search on this side of a key, before it begins.
-    pub fn new(way: Way, key: u64) -> Search
-        ensures { result ≡ search_of way key }
+    #[inline]
+    pub fn new(side: Side, key: u64) -> Search
+        ensures { result ≡ search_of side key }
     {
         Search {
-            way,
-            key,
-            node: SENTINEL,
+            walk: Walk::new(key),
+            side,
+            phase: SearchPhase::Walking,
+            met: 0,
             nearest: None,
-            awaited: Awaited::Begin,
         }
     }
 
-    /// Tells the search something, and answers what it asks next.
-    pub fn step(&mut self, told: Told) -> Ask
-        ensures { (self.new, result) ≡ search_moves self.old told }
+    /// Tells the search something, and answers what it asks next. It asks for no exchange.
+    #[inline]
+    pub fn step(&mut self, told: Told) -> Turn
+        ensures { (p : Planned) → (self.new, asked result p) ≡ search_moves self.old told }
     {
-        match (self.awaited, told) {
-            (Awaited::Begin, Told::Begin) => self.visit(self.node),
-            (Awaited::Version, Told::Version(_)) => self.arrive(),
-            (Awaited::Key, Told::Number(key)) => self.compare(key),
-            (Awaited::Value(key), Told::Number(value)) => self.remember(key, value),
-            (Awaited::Link(_), Told::Number(link)) => match node_of(link) {
-                Some(node) => self.visit(node),
-                None => self.answer(reply_of(self.nearest)),
-            },
-            _ => self.answer(Reply::None),
+        match (self.phase, told) {
+            (SearchPhase::Walking, told) => self.walk_on(told),
+            (SearchPhase::Reading, Told::Number(value)) => self.remember(value),
+            _ => self.end(Reply::None),
         }
     }
 
-    fn visit(&mut self, node: u32) -> Ask
-        ensures { (self.new, result) ≡ visiting self.old node }
+    /// Tells the walk something, and asks for what it does next.
+    #[inline]
+    fn walk_on(&mut self, told: Told) -> Turn
+        ensures { (p : Planned) → (self.new, asked result p) ≡ walked (with_walk self.old (walk_step self.old.walk told).0) (walk_step self.old.walk told).1 }
     {
-        self.node = node;
-        self.awaited = Awaited::Version;
-        Ask::Visit(node)
-    }
-
-    fn read(&mut self, field: Field, awaited: Awaited) -> Ask
-        ensures { (self.new, result) ≡ reading self.old field awaited }
-    {
-        self.awaited = awaited;
-        Ask::Read(self.node, field)
-    }
-
-    fn arrive(&mut self) -> Ask
-        ensures { (self.new, result) ≡ arriving self.old }
-    {
-        if self.node == SENTINEL {
-            return self.read(Field::Left, Awaited::Link(Field::Left));
+        match self.walk.step(told) {
+            Step::Visit(node) => Turn::Visit(node),
+            Step::Read(node, field) => Turn::Read(node, field),
+            Step::Here(key) if is_on(self.side, self.walk.key, key) => self.read_value(key),
+            Step::Here(key) => self.walk.go_on(key),
+            Step::Missing(_, _) => self.end(reply_of(self.nearest)),
+            Step::Astray => self.end(Reply::None),
         }
-        self.read(Field::Key, Awaited::Key)
     }
 
-    /// Goes on to the side of a node's key where the key that is asked for lies.
-    fn go(&mut self, key: u64) -> Ask
-        ensures { (self.new, result) ≡ going self.old key }
+    /// Reads the value of the node that the walk has come to, which has this key.
+    #[inline]
+    fn read_value(&mut self, key: u64) -> Turn
+        ensures { (p : Planned) → (self.new, asked result p) ≡ reading_value self.old key }
     {
-        let link = if self.key < key {
-            Field::Left
-        } else {
-            Field::Right
-        };
-        self.read(link, Awaited::Link(link))
+        self.met = key;
+        self.phase = SearchPhase::Reading;
+        Turn::Read(self.walk.node, Field::Value)
     }
 
-    fn compare(&mut self, key: u64) -> Ask
-        ensures { (self.new, result) ≡ comparing self.old key }
+    /// Remembers the pair that was met, and goes on unless its key is the one that is asked for.
+    #[inline]
+    fn remember(&mut self, value: u64) -> Turn
+        ensures { (p : Planned) → (self.new, asked result p) ≡ remembering self.old value }
     {
-        if self.way.has(self.key, key) {
-            return self.read(Field::Value, Awaited::Value(key));
+        self.nearest = Some((self.met, value));
+        self.phase = SearchPhase::Walking;
+        if self.met == self.walk.key {
+            return self.end(Reply::Pair(self.met, value));
         }
-        self.go(key)
+        self.walk.go_on(self.met)
     }
 
-    /// Remembers a pair, and goes on unless its key is the one that is asked for.
-    fn remember(&mut self, key: u64, value: u64) -> Ask
-        ensures { (self.new, result) ≡ remembering self.old key value }
+    #[inline]
+    fn end(&mut self, reply: Reply) -> Turn
+        ensures { (p : Planned) → (self.new, asked result p) ≡ ended self.old reply }
     {
-        self.nearest = Some((key, value));
-        if self.key == key {
-            return self.answer(reply_of(self.nearest));
-        }
-        self.go(key)
-    }
-
-    fn answer(&mut self, reply: Reply) -> Ask
-        ensures { (self.new, result) ≡ answering self.old reply }
-    {
-        self.awaited = Awaited::Nothing;
-        Ask::Answer(reply)
+        self.phase = SearchPhase::Ended;
+        Turn::Answer(reply)
     }
 }
