@@ -15,7 +15,8 @@ use Rattle.pc_plan.specs.Walks.{walk_step}
 use Rattle.pc_order.specs.declared.search.Search.{Search}
 use Rattle.pc_order.specs.declared.search.SearchPhase.{SearchPhase}
 use Rattle.pc_order.specs.declared.search.SearchPhase.TheVariants.{Walking, Reading, Ended}
-use Rattle.pc_order.specs.Searches.{is_on, search_of, with_walk, ended, going_on, reading_value, walked, remembered, search_told, search_moves}
+use Rattle.pc_order.specs.Searches.{is_on, search_of, with_walk, ended, going_on, reading_value, walked, remembered}
+use Rattle.pc_order.specs.Searches.{search_told, search_moves}
 
 abbrev IsQuiet : Search × Ask → Type 0
 IsQuiet s = ChangesNothing s.1

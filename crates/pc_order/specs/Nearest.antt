@@ -1,12 +1,14 @@
 -- The nearest pair on one side of a key, where a walk meets a node: the pairs are those of a fork.
-use Rattle.std.proofs.Common.{◌≡◌, ℕ, ◌<◌, ◌++◌, ◌∷◌, [], if◌then◌else◌, true, Option, Some, None, refl, sym, ap, ◌∙◌, arith}
+use Rattle.std.proofs.Common.{◌≡◌, ◌≢◌, ℕ, ◌<◌, ◌++◌, ◌∷◌, [], if◌then◌else◌, true, false, Option, Some, None}
+use Rattle.std.proofs.Common.{refl, sym, ap, ◌∙◌, arith}
 use Rattle.std.specs.Prelude.{nat_le}
 use Rattle.std.proofs.lemmas.Bool.{le-leb, lt-leb, cond-true, cond-false}
 use Rattle.pc_model.specs.declared.cell.Side.{Side}
 use Rattle.pc_model.specs.declared.cell.Side.TheVariants.{Left, Right}
 use Rattle.pc_model.specs.declared.cell.Field.{Field}
 use Rattle.pc_model.specs.declared.cell.Field.TheVariants.{Key}
-use Rattle.pc_model.specs.Map.{Pairs, IsRising, AreBelow, AreAbove, ceil_of, floor_of, found_or, pair_or_nothing, reply_of, pairs_after}
+use Rattle.pc_model.specs.Map.{Pairs, IsRising, AreBelow, AreAbove, ceil_of, floor_of, found_or, pair_or_nothing}
+use Rattle.pc_model.specs.Map.{reply_of, pairs_after}
 use Rattle.pc_model.specs.Cells.{Cells}
 use Rattle.pc_model.specs.Trees.{Tree, Fork, Kind, pair_of}
 use Rattle.pc_model.proofs.SortedLists.{ceil_of-front, ceil_of-back, floor_of-front, floor_of-back}
@@ -22,7 +24,8 @@ nearest_on Right k ps = ceil_of k ps
 abbrev pub kept_on : Side → ℕ → ℕ × ℕ → Option (ℕ × ℕ) → Option (ℕ × ℕ)
 kept_on side k p o = if is_on side k p.0 then Some p else o
 
-pub nearest-reply : (side : Side) (k : ℕ) (ps : Pairs) → pair_or_nothing (nearest_on side k ps) ≡ reply_of (call_on side k) ps
+pub nearest-reply : (side : Side) (k : ℕ) (ps : Pairs)
+    → pair_or_nothing (nearest_on side k ps) ≡ reply_of (call_on side k) ps
 nearest-reply Left k ps = refl
 nearest-reply Right k ps = refl
 
@@ -35,40 +38,40 @@ nearest-none Left k = refl
 nearest-none Right k = refl
 
 -- the key itself lies on both sides
-pub on-same : (side : Side) (k x : ℕ) → k ≡ x → is_on side k x ≡ true
-on-same Left k x e = le-leb x k (omega arith)
-on-same Right k x e = le-leb k x (omega arith)
+pub off_differs : (side : Side) (k x : ℕ) → is_on side k x ≡ false → x ≢ k
+off_differs Left k x off = λ e. let on : is_on Left k x ≡ true = le-leb x k (omega arith) in cc
+off_differs Right k x off = λ e. let on : is_on Right k x ≡ true = le-leb k x (omega arith) in cc
 
--- where the node has the key, the nearest pair is its own
-pub nearest-hole : (side : Side) (kind : Kind) (slots : ℕ) (c : Cells) (ps : Pairs) (whole : Tree) (k above : ℕ) (link : Field)
-    (n : ℕ) (l r : Tree) → IsRising ps → Hole kind slots c ps whole k above link (Fork n l r) → c n Key ≡ k
-    → nearest_on side k ps ≡ Some (pair_of c n)
-nearest-hole Left kind slots c ps whole k above link n l r rising h e =
-    floor_of-hole kind slots c ps whole k above link n l r rising h e
-nearest-hole Right kind slots c ps whole k above link n l r rising h e =
-    ceil_of-hole kind slots c ps whole k above link n l r rising h e
+-- where a node has the key, the nearest pair is its own
+pub nearest-hole : (side : Side) (kind : Kind) (slots : ℕ) (c : Cells) (ps : Pairs) (whole : Tree) (k above : ℕ)
+    (link : Field) (n : ℕ) (l r : Tree) → IsRising ps → Hole kind slots c ps whole k above link (Fork n l r)
+    → c n Key ≡ k → nearest_on side k ps ≡ Some (pair_of c n)
+nearest-hole Left = floor_of-hole
+nearest-hole Right = ceil_of-hole
 
 found_twice : (o : Option (ℕ × ℕ)) (p : ℕ × ℕ) (other : Option (ℕ × ℕ))
     → found_or (found_or o (Some p)) other ≡ found_or o (Some p)
 found_twice None p other = refl
 found_twice (Some q) p other = refl
 
--- the pair has a greater key: the nearest one lies before it, or else it is what is remembered now
-pub nearest-before : (side : Side) (k : ℕ) (a : Pairs) (p : ℕ × ℕ) (b : Pairs) (o : Option (ℕ × ℕ)) → AreAbove p.0 b → k < p.0
-    → found_or (nearest_on side k (a ++ (p ∷ b))) o ≡ found_or (nearest_on side k a) (kept_on side k p o)
-nearest-before Left k a p b o above less =
-    ap (λ (x : Option (ℕ × ℕ)). found_or x o) (floor_of-front k a p b above less)
-    ∙ ap (found_or (floor_of k a)) (sym (cond-false (nat_le p.0 k) (Some p) o (lt-leb p.0 k less)))
-nearest-before Right k a p b o above less =
-    ap (λ (x : Option (ℕ × ℕ)). found_or x o) (ceil_of-front k a p b (omega arith)) ∙ found_twice (ceil_of k a) p o
-    ∙ ap (found_or (ceil_of k a)) (sym (cond-true (nat_le k p.0) (Some p) o (le-leb k p.0 (omega arith))))
+module _ (k : ℕ) (a : Pairs) (p : ℕ × ℕ) (b : Pairs) (o : Option (ℕ × ℕ)) where
+  -- the pair has a greater key: the nearest one lies before it, or else it is what is remembered now
+  pub nearest-before : (side : Side) → AreAbove p.0 b → k < p.0
+      → found_or (nearest_on side k (a ++ (p ∷ b))) o ≡ found_or (nearest_on side k a) (kept_on side k p o)
+  nearest-before Left above less =
+      ap (λ (x : Option (ℕ × ℕ)). found_or x o) (floor_of-front k a p b above less)
+      ∙ ap (found_or (floor_of k a)) (sym (cond-false (nat_le p.0 k) (Some p) o (lt-leb p.0 k less)))
+  nearest-before Right above less =
+      ap (λ (x : Option (ℕ × ℕ)). found_or x o) (ceil_of-front k a p b (omega arith)) ∙ found_twice (ceil_of k a) p o
+      ∙ ap (found_or (ceil_of k a)) (sym (cond-true (nat_le k p.0) (Some p) o (le-leb k p.0 (omega arith))))
 
--- the pair has a smaller key: the nearest one lies behind it, or else it is what is remembered now
-pub nearest-behind : (side : Side) (k : ℕ) (a : Pairs) (p : ℕ × ℕ) (b : Pairs) (o : Option (ℕ × ℕ)) → AreBelow p.0 a → p.0 < k
-    → found_or (nearest_on side k (a ++ (p ∷ b))) o ≡ found_or (nearest_on side k b) (kept_on side k p o)
-nearest-behind Left k a p b o below less =
-    ap (λ (x : Option (ℕ × ℕ)). found_or x o) (floor_of-back k a p b below (omega arith)) ∙ found_twice (floor_of k b) p o
-    ∙ ap (found_or (floor_of k b)) (sym (cond-true (nat_le p.0 k) (Some p) o (le-leb p.0 k (omega arith))))
-nearest-behind Right k a p b o below less =
-    ap (λ (x : Option (ℕ × ℕ)). found_or x o) (ceil_of-back k a p b below less)
-    ∙ ap (found_or (ceil_of k b)) (sym (cond-false (nat_le k p.0) (Some p) o (lt-leb k p.0 less)))
+  -- the pair has a smaller key: the nearest one lies behind it, or else it is what is remembered now
+  pub nearest-behind : (side : Side) → AreBelow p.0 a → p.0 < k
+      → found_or (nearest_on side k (a ++ (p ∷ b))) o ≡ found_or (nearest_on side k b) (kept_on side k p o)
+  nearest-behind Left below less =
+      ap (λ (x : Option (ℕ × ℕ)). found_or x o) (floor_of-back k a p b below (omega arith))
+      ∙ found_twice (floor_of k b) p o
+      ∙ ap (found_or (floor_of k b)) (sym (cond-true (nat_le p.0 k) (Some p) o (le-leb p.0 k (omega arith))))
+  nearest-behind Right below less =
+      ap (λ (x : Option (ℕ × ℕ)). found_or x o) (ceil_of-back k a p b below less)
+      ∙ ap (found_or (ceil_of k b)) (sym (cond-false (nat_le k p.0) (Some p) o (lt-leb k p.0 less)))

@@ -20,12 +20,14 @@ use Rattle.pc_plan.proofs.WalkLawful.{HasCome, StepStands, Waits, walk_stands, w
 use Rattle.pc_order.specs.declared.search.Search.{Search}
 use Rattle.pc_order.specs.declared.search.SearchPhase.{SearchPhase}
 use Rattle.pc_order.specs.declared.search.SearchPhase.TheVariants.{Walking, Reading, Ended}
-use Rattle.pc_order.specs.Searches.{is_on, search_of, with_walk, ended, going_on, reading_value, walked, remembered, remembering, search_told, search_moves}
+use Rattle.pc_order.specs.Searches.{is_on, search_of, with_walk, ended, going_on, reading_value, walked, remembered}
+use Rattle.pc_order.specs.Searches.{remembering, search_told, search_moves}
 
 -- what holds of a search in this phase that waits for the answer to this ask
 abbrev pub InPhase : List Event → Search → Ask → SearchPhase → Type 0
 InPhase past s a Walking = Waits past s.walk a
-InPhase past s a Reading = (a ≡ AskRead s.walk.node ValueField) × HasCome past s.walk × (reads_since_visit past ≡ 1)
+InPhase past s a Reading =
+    (a ≡ AskRead s.walk.node ValueField) × HasCome past s.walk × (reads_since_visit past ≡ 1)
 InPhase past s a Ended = (r : Reply) × (a ≡ Answer r)
 
 -- what each step of a search keeps
@@ -43,7 +45,8 @@ module _ (past : List Event) (s : Search) (walking : s.phase ≡ Walking) where
       let one : reads_since_visit past ≡ 1 = h.2 in
       cond_both (is_on s.side s.walk.key x) (reading_value s x) (going_on s x) (Keeps past)
       (λ _. (refl, h.0.come, one))
-      (λ _. subst (InPhase past (going_on s x).0 (going_on s x).1) (sym walking) (goes_on past s.walk x h.0.come (omega arith)))
+      (λ _. subst (InPhase past (going_on s x).0 (going_on s x).1) (sym walking)
+      (goes_on past s.walk x h.0.come (omega arith)))
   walk_keeps (Missing side link) h = (pair_or_nothing s.nearest, refl)
   walk_keeps Astray h = (Nothing, refl)
 
@@ -56,20 +59,24 @@ remember_keeps past s v come one =
     (λ _. (Pair s.met v, refl))
     (λ _. goes_on past1 s.walk s.met (come_read past s.walk s.walk.node ValueField v come) (omega arith))
 
-told_keeps : (past : List Event) (s : Search) (a : Ask) (phase : SearchPhase) (t : Told) → IsWord t → s.phase ≡ phase
-    → InPhase past s a phase → Keeps (learned a t past) (search_told s phase t)
+told_keeps : (past : List Event) (s : Search) (a : Ask) (phase : SearchPhase) (t : Told) → IsWord t
+    → s.phase ≡ phase → InPhase past s a phase → Keeps (learned a t past) (search_told s phase t)
 told_keeps past s a Walking t word is h =
-    walk_keeps (learned a t past) (with_walk s (walk_step s.walk t).0) is (walk_step s.walk t).1 (walk_stands past s.walk a t word h)
+    walk_keeps (learned a t past) (with_walk s (walk_step s.walk t).0) is (walk_step s.walk t).1
+    (walk_stands past s.walk a t word h)
 told_keeps past s a Reading (Number v) word is h =
-    subst (λ (b : Ask). Keeps (learned b (Number v) past) (remembering s v)) (sym h.0) (remember_keeps past s v h.1 h.2)
+    subst (λ (b : Ask). Keeps (learned b (Number v) past) (remembering s v)) (sym h.0)
+    (remember_keeps past s v h.1 h.2)
 told_keeps past s a Reading Begin word is h = (Nothing, refl)
 told_keeps past s a Reading (Version v) word is h = (Nothing, refl)
 told_keeps past s a Ended t word is h = (Nothing, refl)
 
-search_keeps : (past : List Event) (s : Search × Ask) (t : Told) → IsWord t → Keeps past s → Keeps (learned s.1 t past) (search_moves s.0 t)
+search_keeps : (past : List Event) (s : Search × Ask) (t : Told) → IsWord t → Keeps past s
+    → Keeps (learned s.1 t past) (search_moves s.0 t)
 search_keeps past s t word h = told_keeps past s.0 s.1 s.0.phase t word refl h
 
-keeps_lawful : (past : List Event) (s : Search) (a : Ask) (phase : SearchPhase) → InPhase past s a phase → IsLawfulAsk past a
+keeps_lawful : (past : List Event) (s : Search) (a : Ask) (phase : SearchPhase) → InPhase past s a phase
+    → IsLawfulAsk past a
 keeps_lawful past s a Walking h = waits_lawful past s.walk a h
 keeps_lawful past s a Reading h =
     let one : reads_since_visit past ≡ 1 = h.2 in

@@ -12,7 +12,8 @@ use Rattle.pc_order.specs.SearchCourses.{search_course}
 use Rattle.pc_order.specs.SearchLawful.{search_lawful}
 use Rattle.pc_order.specs.Searches.{call_on, search_of, search_moves}
 
-search_runs : (side : Side) → Runs (search_of side) search_moves IsKey (λ k. map_terms (call_on side k)) ordered_form
+search_runs : (side : Side)
+    → Runs (search_of side) search_moves IsKey (λ k. map_terms (call_on side k)) ordered_form
 search_runs side = runs_by_course (search_of side) search_moves IsKey (λ k. map_terms (call_on side k)) ordered_form
     (λ slots c ps k past a. EndsRight ordered_form slots c ps (map_terms (call_on side k)) past a)
     (λ slots c ps k past a right. right) (λ slots. 6 * slots + 3) (λ slots. omega arith)

@@ -58,6 +58,9 @@ walked s (Here x) = if is_on s.side s.walk.key x then reading_value s x else goi
 walked s (Missing side link) = ended s (pair_or_nothing s.nearest)
 walked s Astray = ended s Nothing
 
+abbrev pub walked_on : Search → Told → Search × Ask
+walked_on s t = walked (with_walk s (walk_step s.walk t).0) (walk_step s.walk t).1
+
 abbrev pub remembered : Search → ℕ → Search
 remembered s v = search_at s.side s.walk Walking s.met (Some (s.met, v))
 
@@ -68,7 +71,7 @@ remembering s v = if s.met == s.walk.key
     else going_on (remembered s v) s.met
 
 abbrev pub search_told : Search → SearchPhase → Told → Search × Ask
-search_told s Walking t = walked (with_walk s (walk_step s.walk t).0) (walk_step s.walk t).1
+search_told s Walking t = walked_on s t
 search_told s Reading (Number v) = remembering s v
 search_told s _ _ = ended s Nothing
 

@@ -6,6 +6,8 @@ mod ceil;
 mod floor;
 mod laws;
 mod search;
+#[cfg(test)]
+mod tests;
 
 pub use ceil::CeilPlan;
 pub use floor::FloorPlan;

@@ -4,8 +4,8 @@ ghost use Rattle.std.specs.Prelude.{◌≡◌};
 ghost use Rattle.pc_model.specs.Map.{pair_or_nothing};
 ghost use Rattle.pc_plan.specs.Asking.{asked};
 ghost use Rattle.pc_plan.specs.Planned.{Planned};
-ghost use Rattle.pc_plan.specs.Walks.{walk_step};
-ghost use Rattle.pc_order.specs.Searches.{is_on, search_of, with_walk, walked, reading_value, remembering, ended, search_moves};
+ghost use Rattle.pc_order.specs.Searches.{is_on, search_of, search_moves};
+ghost use Rattle.pc_order.specs.Searches.{walked_on, reading_value, remembering, ended};
 
 use pc_model::{Field, Reply, Side};
 use pc_plan::{Step, Told, Turn, Walk};
@@ -86,7 +86,7 @@ impl Search {
     /// Tells the walk something, and asks for what it does next.
     #[inline]
     fn walk_on(&mut self, told: Told) -> Turn
-        ensures { (p : Planned) → (self.new, asked result p) ≡ walked (with_walk self.old (walk_step self.old.walk told).0) (walk_step self.old.walk told).1 }
+        ensures { (p : Planned) → (self.new, asked result p) ≡ walked_on self.old told }
     {
         match self.walk.step(told) {
             Step::Visit(node) => Turn::Visit(node),
