@@ -1,8 +1,9 @@
 -- What was sent piece by piece was sent as a whole.
-use Rattle.std.proofs.Common.{ℕ, List, [], ◌++◌, Option, refl, sym, ap, subst, ◌∙◌, append_assoc, append-nil}
+use Rattle.std.proofs.Common.{◌≡◌, ℕ, ◌≤◌, List, [], ◌++◌, Option, refl, sym, ap, subst, ◌∙◌, append_assoc, append-nil, arith}
+use Rattle.std.specs.Prelude.{Result, Ok, Err, OnOk, OnErr}
 use Rattle.std.specs.Io.KnownBytes.{Appends, Keeps}
 use Rattle.std.proofs.KnownBytes.{Appends-nil, Appends-trans, Appends-kept}
-use Rattle.pc_edge.specs.Sending.{Sends, AppendsFront}
+use Rattle.pc_edge.specs.Sending.{Sends, AppendsFront, Writes}
 
 -- nothing was sent yet: all of the text is the rest
 pub Sends-nothing : (a : Option (List ℕ)) (text : List ℕ) → Sends a a text text
@@ -51,3 +52,57 @@ AppendsFront-more a b c text rest more s f = AppendsFront-after a b c (text ++ m
 -- what was sent whole was sent as a front of what it begins
 pub AppendsFront-of_Appends : (a b c : Option (List ℕ)) (sent rest : List ℕ) → Appends a b sent → Keeps b c → AppendsFront a c (sent ++ rest)
 AppendsFront-of_Appends a b c sent rest p k = record { unsent = rest; sends = record { sent = sent; whole = refl; grew = Appends-kept a b c sent p k } }
+
+-- nothing was written yet: all of the text waits
+pub Writes-nothing : {K T E : Type 0} (held : K → Option (List ℕ)) (faults : K → ℕ) (s : K) (text : List ℕ) (x : T)
+    → Writes {E = E} held faults s s text text (Ok x)
+Writes-nothing held faults s text x =
+    record { ok = Sends-nothing (held s) text; front = tt; cause = tt; never_falls = omega arith }
+
+-- a text was written but for a rest, and then the rest
+pub Writes-then : {K T U E : Type 0} (held : K → Option (List ℕ)) (faults : K → ℕ) (a b c : K)
+    (text rest later : List ℕ) (x : T) (r : Result U E) → Writes {E = E} held faults a b text rest (Ok x)
+    → Writes held faults b c rest later r → Writes held faults a c text later r
+Writes-then held faults a b c text rest later x (Ok y) p q = record {
+  ok = Sends-trans _ _ _ text rest later p.ok q.ok;
+  front = tt;
+  cause = tt;
+  never_falls = omega (arith, p.never_falls, q.never_falls);
+}
+Writes-then held faults a b c text rest later x (Err e) p q = record {
+  ok = tt;
+  front = AppendsFront-after _ _ _ text rest p.ok q.front;
+  cause = omega (arith, p.never_falls, q.cause);
+  never_falls = omega (arith, p.never_falls, q.never_falls);
+}
+
+-- after a text that was written but for a rest came more
+pub Writes-more : {K T U E : Type 0} (held : K → Option (List ℕ)) (faults : K → ℕ) (a b c : K)
+    (text rest more later : List ℕ) (x : T) (r : Result U E) → Writes {E = E} held faults a b text rest (Ok x)
+    → Writes held faults b c (rest ++ more) later r → Writes held faults a c (text ++ more) later r
+Writes-more {E = E} held faults a b c text rest more later x r p q =
+    let longer : Writes {E = E} held faults a b (text ++ more) (rest ++ more) (Ok x) = record {
+      ok = Sends-append _ _ text rest more p.ok;
+      front = tt;
+      cause = tt;
+      never_falls = p.never_falls;
+    } in
+    Writes-then held faults a b c (text ++ more) (rest ++ more) later x r longer q
+
+-- where the sink failed at a text, it failed at the text with more after it, whatever was to wait
+pub Writes-failed : {K T U E F : Type 0} (held : K → Option (List ℕ)) (faults : K → ℕ) (a b : K)
+    (text more rest later : List ℕ) (e : E) (f : F) → Writes {T = T} held faults a b text rest (Err e)
+    → Writes {T = U} held faults a b (text ++ more) later (Err f)
+Writes-failed held faults a b text more rest later e f p = record {
+  ok = tt;
+  front = AppendsFront-append _ _ text more p.front;
+  cause = p.cause;
+  never_falls = p.never_falls;
+}
+
+-- where the sink failed, nothing is said of what was to wait, nor of the error
+pub Writes-stopped : {K T U E F : Type 0} (held : K → Option (List ℕ)) (faults : K → ℕ) (a b : K)
+    (text rest later : List ℕ) (e : E) (f : F) → Writes {T = T} held faults a b text rest (Err e)
+    → Writes {T = U} held faults a b text later (Err f)
+Writes-stopped held faults a b text rest later e f p =
+    record { ok = tt; front = p.front; cause = p.cause; never_falls = p.never_falls }

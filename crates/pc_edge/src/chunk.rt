@@ -1,10 +1,8 @@
 //! A chunk gathers text on its way to a sink. What is put into it can't fail and takes no memory;
 //! only sending it on can fail. The sink lies beside the chunk, not in it.
-ghost use Rattle.std.specs.Prelude.{◌≡◌, ℕ, ◌+◌, ◌-◌, ◌<◌, ◌≤◌, List, [], ◌∷◌, ◌++◌, length, take, IfOk, OnOk, OnErr};
+ghost use Rattle.std.specs.Prelude.{◌≡◌, ◌↔◌, ℕ, ◌+◌, ◌<◌, ◌≤◌, List, [], ◌∷◌, ◌++◌, length, take, IsTrue, OnOk};
 ghost use Rattle.std.specs.Fmt.{decimal};
-ghost use Rattle.std.specs.Io.KnownBytes.{Appends};
-ghost use Rattle.pc_edge.specs.Faults.{HasRisen};
-ghost use Rattle.pc_edge.specs.Sending.{Sends, AppendsFront};
+ghost use Rattle.pc_edge.specs.Sending.{Writes};
 
 use super::traits::{Failed, Sink};
 use itoa::write_digits;
@@ -13,22 +11,25 @@ use std::marker::Model;
 /// How many bytes a chunk holds at most.
 pub const SIZE: usize = 8192;
 
-/// The greatest number of digits of a number.
-const DIGITS: usize = 20;
+/// How many digits a number of 64 bits has at most.
+pub const DIGITS: usize = 20;
 
 /// Text that waits to be sent to a sink. In contracts it is the list of its bytes.
-#[derive(Drop)]
+#[derive(Debug, Drop)]
 pub struct Chunk {
     bytes: [u8; SIZE],
     used: usize,
 }
 
 impl Model for Chunk {
+    ghost use Rattle.std.specs.Prelude.{ℕ, ◌≤◌, List, take};
+    ghost use Rattle.pc_edge.specs.declared.chunk.TheConstants.{SIZE};
+
     ghost Value = { List ℕ };
 
     ghost view = { λ c. take c.used c.bytes };
 
-    ghost invariant = { λ c. c.used ≤ 8192 };
+    ghost invariant = { λ c. c.used ≤ SIZE };
 }
 
 impl Chunk {
@@ -47,6 +48,13 @@ impl Chunk {
         ensures { result ≡ length self.now }
     {
         self.used
+    }
+
+    /// Whether nothing waits.
+    pub fn is_empty(&self) -> bool
+        ensures { IsTrue result ↔ (self.now ≡ []) }
+    {
+        self.used == 0
     }
 
     /// Puts a text after what waits.
@@ -70,9 +78,9 @@ impl Chunk {
 
     /// Puts a number after what waits, in decimal digits with no leading zeros.
     pub fn push_number(&mut self, n: u64)
-        requires { length self.old + 20 ≤ SIZE }
+        requires { length self.old + DIGITS ≤ SIZE }
         ensures digits { self.new ≡ self.old ++ decimal n }
-        ensures short { length self.new ≤ length self.old + 20 }
+        ensures short { length self.new ≤ length self.old + DIGITS }
     {
         let mut digits = [0; DIGITS];
         let start = write_digits(n, &mut digits, DIGITS);
@@ -82,10 +90,7 @@ impl Chunk {
     /// Sends all that waits. Afterwards the chunk is empty, also where the sink failed: then a
     /// front of what waited was sent, and the rest is given up.
     pub fn flush<K: Sink>(&mut self, sink: &mut K) -> Result<(), Failed>
-        ensures ok { OnOk result (Appends (K.held sink.old) (K.held sink.new) self.old) }
-        ensures err { OnErr result (AppendsFront (K.held sink.old) (K.held sink.new) self.old) }
-        ensures cause { OnErr result (HasRisen (K.faults sink.old) (K.faults sink.new)) }
-        ensures never_falls { K.faults sink.old ≤ K.faults sink.new }
+        ensures written { Writes K.held K.faults sink.old sink.new self.old [] result }
         ensures empty { self.new ≡ [] }
     {
         let sent = write_all(sink, &self.bytes[..self.used]);
@@ -97,10 +102,7 @@ impl Chunk {
     pub fn make_room<K: Sink>(&mut self, sink: &mut K, room: usize) -> Result<(), Failed>
         requires { room ≤ SIZE }
         ensures room { OnOk result (length self.new + room ≤ SIZE) }
-        ensures ok { OnOk result (Sends (K.held sink.old) (K.held sink.new) self.old self.new) }
-        ensures err { OnErr result (AppendsFront (K.held sink.old) (K.held sink.new) self.old) }
-        ensures cause { OnErr result (HasRisen (K.faults sink.old) (K.faults sink.new)) }
-        ensures never_falls { K.faults sink.old ≤ K.faults sink.new }
+        ensures written { Writes K.held K.faults sink.old sink.new self.old self.new result }
     {
         if SIZE - self.used < room {
             return self.flush(sink);
@@ -111,10 +113,7 @@ impl Chunk {
 
 /// Writes all of a piece to a sink, by as many writes as it takes.
 pub fn write_all<K: Sink>(sink: &mut K, piece: &[u8]) -> Result<(), Failed>
-    ensures ok { OnOk result (Appends (K.held sink.old) (K.held sink.new) piece.now) }
-    ensures err { OnErr result (AppendsFront (K.held sink.old) (K.held sink.new) piece.now) }
-    ensures cause { OnErr result (HasRisen (K.faults sink.old) (K.faults sink.new)) }
-    ensures never_falls { K.faults sink.old ≤ K.faults sink.new }
+    ensures { Writes K.held K.faults sink.old sink.new piece.now [] result }
 {
     let mut at = 0;
     while at < piece.len() {

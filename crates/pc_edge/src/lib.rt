@@ -9,7 +9,7 @@ mod in_memory;
 mod standard;
 mod traits;
 
-pub use chunk::{Chunk, SIZE, write_all};
+pub use chunk::{Chunk, DIGITS, SIZE, write_all};
 pub use in_memory::{MemorySink, MemorySource};
 pub use standard::{NeverFails, OpenGate, StdSink, StdSource};
 pub use traits::{Failed, Gate, Sink, Source};

@@ -3,8 +3,11 @@ ghost use Rattle.std.specs.Prelude.{ℕ, ◌<◌, ◌≤◌, List, Option, lengt
 ghost use Rattle.std.specs.Io.KnownBytes.{ReadConsumes, WriteAppends};
 ghost use Rattle.pc_edge.specs.Faults.{HasRisen};
 
+use thiserror::Error;
+
 /// A read or a write failed. The count of faults of its object rose, or stands at its last value.
-#[derive(Clone, Copy, Debug, PartialEq, Eq)]
+#[derive(Clone, Copy, Debug, PartialEq, Eq, Error)]
+#[error("a read or a write failed")]
 pub struct Failed;
 
 /// Where bytes come from.

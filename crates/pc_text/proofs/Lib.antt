@@ -1,4 +1,4 @@
-pub mod Lines
+pub mod PrintedLines
 pub mod NumberLemmas
 pub mod ReadLemmas
 pub mod Readable

@@ -1,5 +1,7 @@
+pub mod Fault
 pub mod FaultLine
 pub mod FixesHistory
+pub mod LineText
 pub mod Lines
 pub mod Printed
 pub mod Script

@@ -1,69 +1,142 @@
 //! The faults that end a run, and their lines.
-ghost use Rattle.std.specs.Prelude.{◌≡◌, ◌+◌, ◌≤◌, ◌++◌, length, OnOk, OnErr};
-ghost use Rattle.std.specs.Io.KnownBytes.{Appends};
-ghost use Rattle.pc_edge.specs.Faults.{HasRisen};
-ghost use Rattle.pc_edge.specs.Sending.{AppendsFront};
+ghost use Rattle.std.specs.Prelude.{◌≡◌, ◌+◌, ◌≤◌, [], ◌++◌, length};
+ghost use Rattle.pc_edge.specs.Sending.{Writes};
+ghost use Rattle.pc_text.specs.Fault.{status_of};
 ghost use Rattle.pc_text.specs.FaultLine.{kind_text, counter_text, fault_text, fault_line};
 
 use crate::kind::ScriptKind;
-use crate::pieces::{LINE, push_turn};
+use crate::lines::{Line, print_line};
+use crate::pieces::push_turn;
+use crate::script::ScriptFault;
 use pc_edge::{Chunk, Failed, SIZE, Sink};
-use pc_model::Counter;
+use pc_model::{Counter, Memory};
+use std::alloc::AllocError;
+use thiserror::Error;
 
 /// What ends a run without a result.
-#[derive(Clone, Copy, Debug, PartialEq, Eq)]
+#[derive(Clone, Copy, Debug, PartialEq, Eq, Error)]
 pub enum Fault {
     /// A faulty command line.
+    #[error("usage")]
     Usage,
     /// A faulty line of a script.
+    #[error("line {line} {kind}")]
     Script { line: u32, kind: ScriptKind },
     /// A read failed.
+    #[error("read")]
     Read,
     /// The input was too large.
+    #[error("input too large")]
     TooLargeInput,
     /// More slots were asked for than there can be.
+    #[error("too many slots")]
     TooManySlots,
     /// The slots ran out at this client's call of this number.
+    #[error("slots {client}.{number}")]
     Slots { client: u32, number: u32 },
     /// A counter came to its end.
+    #[error("numbers {}", counter_name(.0))]
     Numbers(Counter),
     /// Memory was wanted, and there was none.
+    #[error("memory")]
     Memory,
     /// What was asked for is not built.
+    #[error("not built")]
     NotBuilt,
+}
+
+/// The word for a counter.
+fn counter_name(counter: &Counter) -> &'static str {
+    match counter {
+        Counter::Attempt => "attempt",
+        Counter::Install => "install",
+        Counter::Stamp => "stamp",
+        Counter::Version => "version",
+        Counter::Epoch => "epoch",
+    }
+}
+
+impl From<ScriptFault> for Fault {
+    ghost use Rattle.std.specs.Prelude.{◌≡◌};
+    ghost use Rattle.pc_text.specs.Fault.{fault_of_script};
+
+    ghost from_gives = { λ cause fault. fault ≡ fault_of_script cause };
+
+    fn from(cause: ScriptFault) -> Fault {
+        match cause {
+            ScriptFault::Bad { line, kind } => Fault::Script { line, kind },
+            ScriptFault::Memory => Fault::Memory,
+        }
+    }
+}
+
+impl From<Memory> for Fault {
+    ghost use Rattle.std.specs.Prelude.{◌≡◌};
+    ghost use Rattle.pc_text.specs.declared.fault.Fault.TheVariants.{Memory};
+
+    ghost from_gives = { λ _ fault. fault ≡ Memory };
+
+    fn from(_cause: Memory) -> Fault {
+        Fault::Memory
+    }
+}
+
+impl From<AllocError> for Fault {
+    ghost use Rattle.std.specs.Prelude.{◌≡◌};
+    ghost use Rattle.pc_text.specs.declared.fault.Fault.TheVariants.{Memory};
+
+    ghost from_gives = { λ _ fault. fault ≡ Memory };
+
+    fn from(_cause: AllocError) -> Fault {
+        Fault::Memory
+    }
+}
+
+impl Fault {
+    /// The status with which a program ends at this fault.
+    pub fn status(&self) -> u8
+        ensures { result ≡ status_of self.now }
+    {
+        match self {
+            Fault::Usage => 2,
+            Fault::Script { .. } | Fault::NotBuilt => 3,
+            Fault::Read => 4,
+            Fault::TooLargeInput | Fault::TooManySlots => 6,
+            Fault::Slots { .. } => 7,
+            Fault::Numbers(_) => 8,
+            Fault::Memory => 9,
+        }
+    }
 }
 
 /// Prints a fault's line. It takes no memory.
 pub fn print_fault<K: Sink>(sink: &mut K, fault: &Fault) -> Result<(), Failed>
-    ensures ok { OnOk result (Appends (K.held sink.old) (K.held sink.new) (fault_line fault.now)) }
-    ensures front { OnErr result (AppendsFront (K.held sink.old) (K.held sink.new) (fault_line fault.now)) }
-    ensures cause { OnErr result (HasRisen (K.faults sink.old) (K.faults sink.new)) }
-    ensures never_falls { K.faults sink.old ≤ K.faults sink.new }
+    ensures { Writes K.held K.faults sink.old sink.new (fault_line fault.now) [] result }
 {
     let mut chunk = Chunk::new();
-    push_line(&mut chunk, fault);
+    print_line(sink, &mut chunk, Line::Fault(*fault))?;
     chunk.flush(sink)
 }
 
 /// Puts a fault's line into a chunk that has room for it.
 #[tactic(auto, unfolding(crate::specs::FaultLine::fault_line), using(std::proofs::Common::append_assoc))]
-fn push_line(chunk: &mut Chunk, fault: &Fault)
-    requires { length chunk.old + LINE ≤ SIZE }
-    ensures { chunk.new ≡ chunk.old ++ fault_line fault.now }
+pub(crate) fn push_fault(chunk: &mut Chunk, fault: Fault)
+    requires { length chunk.old + 256 ≤ SIZE }
+    ensures { chunk.new ≡ chunk.old ++ fault_line fault }
 {
     chunk.push(b"fault ");
-    push_fault(chunk, fault);
+    push_words(chunk, fault);
     chunk.push_byte(b'\n');
 }
 
 /// Puts what a fault's line says of it.
 #[tactic(auto, unfolding(crate::specs::FaultLine::fault_text), using(std::proofs::Common::append_assoc))]
-fn push_fault(chunk: &mut Chunk, fault: &Fault)
+fn push_words(chunk: &mut Chunk, fault: Fault)
     requires { length chunk.old + 128 ≤ SIZE }
-    ensures text { chunk.new ≡ chunk.old ++ fault_text fault.now }
+    ensures text { chunk.new ≡ chunk.old ++ fault_text fault }
     ensures short { length chunk.new ≤ length chunk.old + 128 }
 {
-    match *fault {
+    match fault {
         Fault::Usage => chunk.push(b"usage"),
         Fault::Script { line, kind } => {
             chunk.push(b"line ");

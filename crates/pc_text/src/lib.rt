@@ -7,7 +7,9 @@ mod cut;
 mod fault;
 mod kind;
 mod laws;
+mod limits;
 mod line;
+mod lines;
 mod number;
 mod pieces;
 mod print;
@@ -20,6 +22,7 @@ pub use kind::ScriptKind;
 pub use laws::{
     empty_input_gives_empty_script, printed_run_fixes_history, written_commands_read_back,
 };
+pub use limits::{GREATEST_NUMBER, MOST_BYTES, MOST_CLIENTS, MOST_COMMANDS};
 pub use print::{Extras, ShapeLine, print_run};
 pub use read::read_script;
 pub use script::{Script, ScriptFault};

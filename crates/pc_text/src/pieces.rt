@@ -1,12 +1,9 @@
 //! The pieces that lines are made of, put into a chunk that has room for them.
 ghost use Rattle.std.specs.Prelude.{◌≡◌, ◌+◌, ◌≤◌, ◌++◌, length};
-ghost use Rattle.pc_text.specs.Printed.{call_text, reply_text, turn_text, entry_line, pair_line, left_line, end_line};
+ghost use Rattle.pc_text.specs.Printed.{call_text, reply_text, turn_text};
 
 use pc_edge::{Chunk, SIZE};
-use pc_model::{Call, Entry, Reply};
-
-/// Room enough for any line.
-pub(crate) const LINE: usize = 512;
+use pc_model::{Call, Reply};
 
 /// Puts `c.m`.
 #[tactic(auto, unfolding(crate::specs::Printed::turn_text), using(std::proofs::Common::append_assoc))]
@@ -74,52 +71,4 @@ pub(crate) fn push_reply(chunk: &mut Chunk, reply: &Reply)
             chunk.push_number(value);
         }
     }
-}
-
-/// Puts the line of an entry.
-#[tactic(auto, unfolding(crate::specs::Printed::entry_line), using(std::proofs::Common::append_assoc))]
-pub(crate) fn push_entry(chunk: &mut Chunk, place: u64, entry: &Entry)
-    requires { length chunk.old + LINE ≤ SIZE }
-    ensures { chunk.new ≡ chunk.old ++ entry_line place entry.now }
-{
-    chunk.push_number(place);
-    chunk.push_byte(b' ');
-    push_turn(chunk, entry.pass, entry.number);
-    chunk.push_byte(b' ');
-    push_call(chunk, &entry.call);
-    chunk.push(b" = ");
-    push_reply(chunk, &entry.reply);
-    chunk.push_byte(b'\n');
-}
-
-/// Puts the line of a pair.
-#[tactic(auto, unfolding(crate::specs::Printed::pair_line), using(std::proofs::Common::append_assoc))]
-pub(crate) fn push_pair(chunk: &mut Chunk, pair: &(u64, u64))
-    requires { length chunk.old + LINE ≤ SIZE }
-    ensures { chunk.new ≡ chunk.old ++ pair_line pair.now }
-{
-    chunk.push_number(pair.0);
-    chunk.push_byte(b' ');
-    chunk.push_number(pair.1);
-    chunk.push_byte(b'\n');
-}
-
-/// Puts the line that says how many pairs are left.
-#[tactic(auto, unfolding(crate::specs::Printed::left_line), using(std::proofs::Common::append_assoc))]
-pub(crate) fn push_left(chunk: &mut Chunk, pairs: usize)
-    requires { length chunk.old + LINE ≤ SIZE }
-    ensures { chunk.new ≡ chunk.old ++ left_line pairs }
-{
-    chunk.push(b"left ");
-    chunk.push_number(pairs as u64);
-    chunk.push_byte(b'\n');
-}
-
-/// Puts the last line.
-#[tactic(auto, unfolding(crate::specs::Printed::end_line), using(std::proofs::Common::append_assoc))]
-pub(crate) fn push_end(chunk: &mut Chunk)
-    requires { length chunk.old + LINE ≤ SIZE }
-    ensures { chunk.new ≡ chunk.old ++ end_line }
-{
-    chunk.push(b"end\n");
 }

@@ -6,7 +6,7 @@ use std::marker::Model;
 use thiserror::Error;
 
 /// The commands of some clients. The first list of `calls` is that of client 1.
-#[derive(Drop)]
+#[derive(Debug, Drop)]
 pub struct Script {
     /// How many clients there are.
     pub clients: u32,
@@ -27,10 +27,10 @@ impl Model for Script {
 #[derive(Clone, Copy, Debug, PartialEq, Eq, Error)]
 pub enum ScriptFault {
     /// The first line that is bad, counted from 1, and what is wrong with it.
-    #[error("line {line}: {kind:?}")]
+    #[error("line {line} {kind}")]
     Bad { line: u32, kind: ScriptKind },
     /// Memory was wanted, and there was none.
-    #[error("no memory")]
+    #[error("memory")]
     Memory,
 }
 

@@ -6,7 +6,7 @@ use Rattle.std.proofs.lemmas.Result.{err_from_is_err_and}
 use Rattle.std.specs.Io.KnownBytes.{Appends, Keeps}
 use Rattle.std.proofs.KnownBytes.{Appends-trans}
 use Rattle.pc_edge.specs.Sending.{AppendsFront}
-use Rattle.pc_edge.proofs.Sends.{AppendsFront-of_Appends}
+use Rattle.pc_edge.proofs.Sends.{AppendsFront-of_Appends, Sends-of_Appends}
 use Rattle.pc_edge.proofs.chunk.write_all.Goals as goal
 
 -- `&piece[at..]` is all that comes after the place
@@ -30,7 +30,25 @@ loop-at-preserved g c = record {
   kept = omega (arith, c.in_ok-at.ensures.never_falls);
 }
 
-pub returns-in_err-at-clause-err : goal.returns-in_err-at-clause-err
-returns-in_err-at-clause-err g c =
+pub returns-in_err-at : goal.returns-in_err-at
+returns-in_err-at g c =
     let p = err_from_is_err_and c.from_residual.result c.from_residual.ensures.1 in
-    rw p.1 (front _ _ _ c.args.piece.now c.loop-at.at c.loop-at.invariant.sent c.in_err-at.ensures.bytes)
+    let h = c.loop-at.invariant in
+    let e = c.in_err-at.ensures in
+    rw p.1 (record {
+      ok = tt;
+      front = front _ _ _ c.args.piece.now c.loop-at.at h.sent e.bytes;
+      cause = omega (arith, h.kept, e.cause);
+      never_falls = omega (arith, h.kept, e.never_falls);
+    })
+
+pub returns : goal.returns
+returns g c =
+    let h = c.loop-at.invariant in
+    let piece = c.args.piece.now in
+    let whole = subst (Appends _ _) (take_all c.loop-at.at piece c.loop-at-test.false) h.sent in record {
+      ok = Sends-of_Appends _ _ piece whole;
+      front = tt;
+      cause = tt;
+      never_falls = h.kept;
+    }

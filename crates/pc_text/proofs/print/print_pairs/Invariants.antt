@@ -1,11 +1,12 @@
--- The lines of the first pairs were sent, but for what waits in the chunk.
-use Rattle.std.proofs.Common.{◌≤◌, ◌++◌, take}
-use Rattle.pc_edge.specs.Sending.{Sends}
+-- The lines of the first pairs were written, but for what waits in the chunk.
+use Rattle.std.proofs.Common.{◌++◌, take}
+use Rattle.std.specs.Prelude.{Result, Ok}
+use Rattle.pc_edge.specs.declared.traits.Failed.{Failed}
+use Rattle.pc_edge.specs.Sending.{Writes}
 use Rattle.pc_text.specs.Printed.{pair_lines}
 use Rattle.pc_text.proofs.print.print_pairs.Given as goal
 
-abbrev pub invariant-loop-pair : goal.invariant-loop-pair
-invariant-loop-pair g l = record {
-  sent : Sends (g.K.Sink.held l.initial.sink) (g.K.Sink.held l.sink) (l.initial.chunk ++ pair_lines (take l.pair-index l.pairs)) l.chunk;
-  kept : g.K.Sink.faults l.initial.sink ≤ g.K.Sink.faults l.sink;
-}
+abbrev pub invariant-loop-key : goal.invariant-loop-key
+invariant-loop-key g l =
+    Writes {T = Unit {0}} {E = Failed} g.K.Sink.held g.K.Sink.faults l.initial.sink l.sink
+    (l.initial.chunk ++ pair_lines (take l.key-index l.pairs)) l.chunk (Ok tt)

@@ -1,83 +1,76 @@
--- The parts of a run go one after another through an empty chunk: where the sink failed, a front of the whole was sent.
-use Rattle.std.proofs.Common.{◌≡◌, ℕ, List, [], ◌++◌, Option, length, subst, sym}
-use Rattle.std.proofs.lemmas.Result.{err_from_is_err_and, on_ok_weaker, on_err_weaker}
-use Rattle.std.specs.Io.KnownBytes.{Appends}
-use Rattle.std.proofs.KnownBytes.{Appends-trans}
-use Rattle.pc_edge.specs.Sending.{Sends, AppendsFront}
-use Rattle.pc_edge.proofs.Sends.{Sends-more, AppendsFront-more, AppendsFront-append, AppendsFront-after}
+-- The parts of a run go one after another through an empty chunk.
+use Rattle.std.proofs.Common.{ℕ, List, [], ◌++◌, Option, length}
+use Rattle.std.specs.Prelude.{Err}
+use Rattle.std.proofs.lemmas.Result.{err_from_is_err_and}
+use Rattle.pc_edge.specs.Sending.{Writes}
+use Rattle.pc_edge.proofs.Sends.{Writes-then, Writes-more, Writes-failed, Writes-stopped}
+use Rattle.pc_text.proofs.PrintedLines.{Writes-from_empty}
 use Rattle.pc_text.specs.Printed.{entry_lines, left_line, pair_lines, end_line}
 use Rattle.pc_text.proofs.print.print_run.Goals as goal
 
--- the chunk was empty at first
-from_empty : (a b : Option (List ℕ)) (chunk text rest : List ℕ) → chunk ≡ [] → Sends a b (chunk ++ text) rest → Sends a b text rest
-from_empty a b chunk text rest e s = subst (λ l. Sends a b (l ++ text) rest) e s
+-- the sink failed before the last two parts
+before_two : {K T U E F : Type 0} (held : K → Option (List ℕ)) (faults : K → ℕ) (a b : K)
+    (text one two rest : List ℕ) (e : E) (f : F) → Writes {T = T} held faults a b text rest (Err e)
+    → Writes {T = U} held faults a b (text ++ one ++ two) [] (Err f)
+before_two {T = T} held faults a b text one two rest e f w =
+    Writes-failed held faults a b (text ++ one) two rest [] e f (Writes-failed {U = T} held faults a b text one rest rest e e w)
 
-front_from_empty : (a b : Option (List ℕ)) (chunk text : List ℕ) → chunk ≡ [] → AppendsFront a b (chunk ++ text) → AppendsFront a b text
-front_from_empty a b chunk text e f = subst (λ l. AppendsFront a b (l ++ text)) e f
+-- and before three
+before_three : {K T U E F : Type 0} (held : K → Option (List ℕ)) (faults : K → ℕ) (a b : K)
+    (text one two three rest : List ℕ) (e : E) (f : F) → Writes {T = T} held faults a b text rest (Err e)
+    → Writes {T = U} held faults a b (text ++ one ++ two ++ three) [] (Err f)
+before_three {T = T} held faults a b text one two three rest e f w =
+    before_two held faults a b (text ++ one) two three rest e f (Writes-failed {U = T} held faults a b text one rest rest e e w)
 
--- the rest was sent too
-sent_whole : (a b c : Option (List ℕ)) (text rest : List ℕ) → Sends a b text rest → Appends b c rest → Appends a c text
-sent_whole a b c text rest s p = subst (Appends a c) (sym s.whole) (Appends-trans a b c s.sent rest s.grew p)
-
-pub returns-in_err-print_entries-clause-front : goal.returns-in_err-print_entries-clause-front
-returns-in_err-print_entries-clause-front g c =
+pub returns-in_err-print_entries : goal.returns-in_err-print_entries
+returns-in_err-print_entries g c =
     let p = err_from_is_err_and c.from_residual.result c.from_residual.ensures.1 in
-    let entries = entry_lines 1 c.args.history.now in
     let left = left_line (length c.args.pairs.now) in
     let pairs = pair_lines c.args.pairs.now in
-    let f = front_from_empty _ _ _ entries c.new-chunk.ensures c.in_err-print_entries.ensures.front in
-    rw p.1 (AppendsFront-append _ _ (entries ++ left ++ pairs) end_line (AppendsFront-append _ _ (entries ++ left) pairs (AppendsFront-append _ _ entries left f)))
-
-pub returns-in_err-print_left-clause-front : goal.returns-in_err-print_left-clause-front
-returns-in_err-print_left-clause-front g c =
-    let p = err_from_is_err_and c.from_residual-in_err-print_left.result c.from_residual-in_err-print_left.ensures.1 in
     let entries = entry_lines 1 c.args.history.now in
+    let s1 = Writes-from_empty _ _ _ _ _ entries _ _ c.new-chunk.ensures c.in_err-print_entries.ensures in
+    rw p.1 (before_three _ _ _ _ entries left pairs end_line _ _ _ s1)
+
+pub returns-in_err-print_line : goal.returns-in_err-print_line
+returns-in_err-print_line g c =
+    let p = err_from_is_err_and c.from_residual-in_err-print_line.result c.from_residual-in_err-print_line.ensures.1 in
     let left = left_line (length c.args.pairs.now) in
     let pairs = pair_lines c.args.pairs.now in
-    let s = from_empty _ _ _ entries _ c.new-chunk.ensures c.in_ok-print_entries.ensures.ok in
-    let f = AppendsFront-more _ _ _ entries _ left s c.in_err-print_left.ensures.front in
-    rw p.1 (AppendsFront-append _ _ (entries ++ left ++ pairs) end_line (AppendsFront-append _ _ (entries ++ left) pairs f))
+    let entries = entry_lines 1 c.args.history.now in
+    let s1 = Writes-from_empty _ _ _ _ _ entries _ _ c.new-chunk.ensures c.in_ok-print_entries.ensures in
+    let s2 = Writes-more _ _ _ _ _ entries _ left _ _ _ s1 c.in_err-print_line.ensures in
+    rw p.1 (before_two _ _ _ _ (entries ++ left) pairs end_line _ _ _ s2)
 
-pub returns-in_err-print_pairs-clause-front : goal.returns-in_err-print_pairs-clause-front
-returns-in_err-print_pairs-clause-front g c =
+pub returns-in_err-print_pairs : goal.returns-in_err-print_pairs
+returns-in_err-print_pairs g c =
     let p = err_from_is_err_and c.from_residual-in_err-print_pairs.result c.from_residual-in_err-print_pairs.ensures.1 in
-    let entries = entry_lines 1 c.args.history.now in
     let left = left_line (length c.args.pairs.now) in
     let pairs = pair_lines c.args.pairs.now in
-    let s = from_empty _ _ _ entries _ c.new-chunk.ensures c.in_ok-print_entries.ensures.ok in
-    let t = Sends-more _ _ _ entries _ left _ s c.in_ok-print_left.ensures.ok in
-    let f = AppendsFront-more _ _ _ (entries ++ left) _ pairs t c.in_err-print_pairs.ensures.front in
-    rw p.1 (AppendsFront-append _ _ (entries ++ left ++ pairs) end_line f)
+    let entries = entry_lines 1 c.args.history.now in
+    let s1 = Writes-from_empty _ _ _ _ _ entries _ _ c.new-chunk.ensures c.in_ok-print_entries.ensures in
+    let s2 = Writes-more _ _ _ _ _ entries _ left _ _ _ s1 c.in_ok-print_line.ensures in
+    let s3 = Writes-more _ _ _ _ _ (entries ++ left) _ pairs _ _ _ s2 c.in_err-print_pairs.ensures in
+    rw p.1 (Writes-failed _ _ _ _ (entries ++ left ++ pairs) end_line _ _ _ _ s3)
 
-pub returns-in_err-print_end-clause-front : goal.returns-in_err-print_end-clause-front
-returns-in_err-print_end-clause-front g c =
-    let p = err_from_is_err_and c.from_residual-in_err-print_end.result c.from_residual-in_err-print_end.ensures.1 in
-    let entries = entry_lines 1 c.args.history.now in
+pub returns-in_err-print_line-2 : goal.returns-in_err-print_line-2
+returns-in_err-print_line-2 g c =
+    let p = err_from_is_err_and c.from_residual-in_err-print_line-2.result c.from_residual-in_err-print_line-2.ensures.1 in
     let left = left_line (length c.args.pairs.now) in
     let pairs = pair_lines c.args.pairs.now in
-    let s = from_empty _ _ _ entries _ c.new-chunk.ensures c.in_ok-print_entries.ensures.ok in
-    let t = Sends-more _ _ _ entries _ left _ s c.in_ok-print_left.ensures.ok in
-    let u = Sends-more _ _ _ (entries ++ left) _ pairs _ t c.in_ok-print_pairs.ensures.ok in
-    rw p.1 (AppendsFront-more _ _ _ (entries ++ left ++ pairs) _ end_line u c.in_err-print_end.ensures.front)
+    let entries = entry_lines 1 c.args.history.now in
+    let s1 = Writes-from_empty _ _ _ _ _ entries _ _ c.new-chunk.ensures c.in_ok-print_entries.ensures in
+    let s2 = Writes-more _ _ _ _ _ entries _ left _ _ _ s1 c.in_ok-print_line.ensures in
+    let s3 = Writes-more _ _ _ _ _ (entries ++ left) _ pairs _ _ _ s2 c.in_ok-print_pairs.ensures in
+    let s4 = Writes-more _ _ _ _ _ (entries ++ left ++ pairs) _ end_line _ _ _ s3 c.in_err-print_line-2.ensures in
+    rw p.1 (Writes-stopped _ _ _ _ (entries ++ left ++ pairs ++ end_line) _ _ _ _ s4)
 
-pub returns-clause-ok : goal.returns-clause-ok
-returns-clause-ok g c =
-    let entries = entry_lines 1 c.args.history.now in
+pub returns : goal.returns
+returns g c =
     let left = left_line (length c.args.pairs.now) in
     let pairs = pair_lines c.args.pairs.now in
-    let s = from_empty _ _ _ entries _ c.new-chunk.ensures c.in_ok-print_entries.ensures.ok in
-    let t = Sends-more _ _ _ entries _ left _ s c.in_ok-print_left.ensures.ok in
-    let u = Sends-more _ _ _ (entries ++ left) _ pairs _ t c.in_ok-print_pairs.ensures.ok in
-    let v = Sends-more _ _ _ (entries ++ left ++ pairs) _ end_line _ u c.in_ok-print_end.ensures.ok in
-    on_ok_weaker c.flush.result (λ w. sent_whole _ _ _ (entries ++ left ++ pairs ++ end_line) _ v w) c.flush.ensures.ok
-
-pub returns-clause-front : goal.returns-clause-front
-returns-clause-front g c =
     let entries = entry_lines 1 c.args.history.now in
-    let left = left_line (length c.args.pairs.now) in
-    let pairs = pair_lines c.args.pairs.now in
-    let s = from_empty _ _ _ entries _ c.new-chunk.ensures c.in_ok-print_entries.ensures.ok in
-    let t = Sends-more _ _ _ entries _ left _ s c.in_ok-print_left.ensures.ok in
-    let u = Sends-more _ _ _ (entries ++ left) _ pairs _ t c.in_ok-print_pairs.ensures.ok in
-    let v = Sends-more _ _ _ (entries ++ left ++ pairs) _ end_line _ u c.in_ok-print_end.ensures.ok in
-    on_err_weaker c.flush.result (λ w. AppendsFront-after _ _ _ (entries ++ left ++ pairs ++ end_line) _ v w) c.flush.ensures.err
+    let s1 = Writes-from_empty _ _ _ _ _ entries _ _ c.new-chunk.ensures c.in_ok-print_entries.ensures in
+    let s2 = Writes-more _ _ _ _ _ entries _ left _ _ _ s1 c.in_ok-print_line.ensures in
+    let s3 = Writes-more _ _ _ _ _ (entries ++ left) _ pairs _ _ _ s2 c.in_ok-print_pairs.ensures in
+    let s4 = Writes-more _ _ _ _ _ (entries ++ left ++ pairs) _ end_line _ _ _ s3 c.in_ok-print_line-2.ensures in
+    Writes-then _ _ _ _ _ (entries ++ left ++ pairs ++ end_line) _ _ _ c.flush.result s4 c.flush.ensures.written

@@ -2,8 +2,9 @@
 use Rattle.std.proofs.Common.{◌≡◌, ℕ, ◌+◌, ◌<◌, List, [], ◌∷◌, ◌++◌, length, take, drop, refl, sym, ap, ◌∙◌, append_assoc, append-nil, arith}
 use Rattle.std.proofs.Common.{Option, subst, get_or}
 use Rattle.std.proofs.lemmas.List.{take_more, take-append-drop, length-take-le}
-use Rattle.pc_edge.specs.Sending.{Sends, AppendsFront}
-use Rattle.pc_edge.proofs.Sends.{Sends-more, AppendsFront-more, AppendsFront-append}
+use Rattle.std.specs.Prelude.{Result, Ok, Err}
+use Rattle.pc_edge.specs.Sending.{Writes}
+use Rattle.pc_edge.proofs.Sends.{Writes-more, Writes-failed}
 use Rattle.pc_model.specs.declared.call.Entry.{Entry}
 use Rattle.pc_text.specs.Printed.{entry_line, entry_lines, pair_line, pair_lines}
 
@@ -41,17 +42,29 @@ entry_lines-split es i = ap (entry_lines 1) (sym (take-append-drop i es)) ∙ en
 pub pair_lines-split : (ps : List (ℕ × ℕ)) (i : ℕ) → pair_lines ps ≡ pair_lines (take i ps) ++ pair_lines (drop i ps)
 pair_lines-split ps i = ap pair_lines (sym (take-append-drop i ps)) ∙ pair_lines-append (take i ps) (drop i ps)
 
--- a text after what waited was sent up to here, and then one part more
-pub Sends-next : (a b c : Option (List ℕ)) (before so_far part with_part chunk later : List ℕ) → with_part ≡ so_far ++ part
-    → Sends a b (before ++ so_far) chunk → Sends b c (chunk ++ part) later → Sends a c (before ++ with_part) later
-Sends-next a b c before so_far part with_part chunk later e s t =
-    subst (λ l. Sends a c l later) (append_assoc before so_far part ∙ ap (λ l. before ++ l) (sym e)) (Sends-more a b c (before ++ so_far) chunk part later s t)
+-- what was written so far with one part more
+pub Writes-next : {K T U E : Type 0} (held : K → Option (List ℕ)) (faults : K → ℕ) (a b c : K)
+    (before so_far part with_part chunk later : List ℕ) (x : T) (r : Result U E) → with_part ≡ so_far ++ part
+    → Writes {E = E} held faults a b (before ++ so_far) chunk (Ok x) → Writes held faults b c (chunk ++ part) later r
+    → Writes held faults a c (before ++ with_part) later r
+Writes-next held faults a b c before so_far part with_part chunk later x r e s t =
+    subst (λ (l : List ℕ). Writes held faults a c l later r)
+    (append_assoc before so_far part ∙ ap (λ l. before ++ l) (sym e))
+    (Writes-more held faults a b c (before ++ so_far) chunk part later x r s t)
 
--- the sink failed at the next part: a front of all was sent
-pub AppendsFront-next : (a b c : Option (List ℕ)) (before so_far part with_part rest all chunk : List ℕ) → with_part ≡ so_far ++ part → all ≡ with_part ++ rest
-    → Sends a b (before ++ so_far) chunk → AppendsFront b c (chunk ++ part) → AppendsFront a c (before ++ all)
-AppendsFront-next a b c before so_far part with_part rest all chunk e whole s f =
-    let front : AppendsFront a c ((before ++ so_far) ++ part) = AppendsFront-more a b c (before ++ so_far) chunk part s f in
-    let same : ((before ++ so_far) ++ part) ++ rest ≡ before ++ all =
-    ap (λ l. l ++ rest) (append_assoc before so_far part ∙ ap (λ l. before ++ l) (sym e)) ∙ append_assoc before with_part rest ∙ ap (λ l. before ++ l) (sym whole) in
-    subst (AppendsFront a c) same (AppendsFront-append a c ((before ++ so_far) ++ part) rest front)
+-- the sink failed with more to come
+pub Writes-cut : {K T U E F : Type 0} (held : K → Option (List ℕ)) (faults : K → ℕ) (a b : K)
+    (before front more all rest later : List ℕ) (e : E) (f : F) → all ≡ front ++ more
+    → Writes {T = T} held faults a b (before ++ front) rest (Err e)
+    → Writes {T = U} held faults a b (before ++ all) later (Err f)
+Writes-cut {U = U} held faults a b before front more all rest later e f whole s =
+    subst (λ (l : List ℕ). Writes {T = U} held faults a b l later (Err f))
+    (append_assoc before front more ∙ ap (λ l. before ++ l) (sym whole))
+    (Writes-failed held faults a b (before ++ front) more rest later e f s)
+
+-- a chunk that is empty at first adds nothing
+pub Writes-from_empty : {K T E : Type 0} (held : K → Option (List ℕ)) (faults : K → ℕ) (a b : K)
+    (chunk text rest : List ℕ) (r : Result T E) → chunk ≡ [] → Writes held faults a b (chunk ++ text) rest r
+    → Writes held faults a b text rest r
+Writes-from_empty held faults a b chunk text rest r empty w =
+    subst (λ (l : List ℕ). Writes held faults a b (l ++ text) rest r) empty w

@@ -1,9 +1,0 @@
--- Where no room could be made, a front of what waited was sent.
-use Rattle.std.proofs.lemmas.Result.{err_from_is_err_and}
-use Rattle.pc_edge.proofs.Sends.{AppendsFront-append}
-use Rattle.pc_text.proofs.print.print_entry.Goals as goal
-
-pub returns-in_err-make_room-clause-front : goal.returns-in_err-make_room-clause-front
-returns-in_err-make_room-clause-front g c =
-    let p = err_from_is_err_and c.from_residual.result c.from_residual.ensures.1 in
-    rw p.1 (AppendsFront-append _ _ _ _ c.in_err-make_room.ensures.err)
