@@ -5,3 +5,4 @@ pub mod Readable
 pub mod Rows
 pub mod TextLemmas
 pub mod WordsLemmas
+pub mod PlainLines

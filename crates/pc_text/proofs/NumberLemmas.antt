@@ -9,6 +9,7 @@ use Rattle.std.proofs.lemmas.Str.Parse.{IsDigitsTest, digits_value-take-le}
 use Rattle.std.specs.Char.{digit_value, is_ascii_digit}
 use Rattle.std.specs.List.{list_all}
 use Rattle.std.specs.Str.Parse.{digits_value}
+use Rattle.pc_text.specs.declared.limits.TheConstants.{GREATEST_NUMBER}
 use Rattle.pc_text.specs.ScriptWords.{is_number, number_of}
 
 pub tells_list_all : IsDigitsTest (λ ds. list_all is_ascii_digit ds ≡ true)
@@ -28,8 +29,8 @@ value_more ds i value below digit is =
     omega (arith, digits_value_more 10 ds i below, last)
 
 -- a word whose first bytes are too large a number is too large a number itself, or none
-pub number_of-too_large : (word : List ℕ) (i : ℕ) → 999999999999999999 < digits_value 10 (take i word) → number_of word ≡ None
+pub number_of-too_large : (word : List ℕ) (i : ℕ) → GREATEST_NUMBER < digits_value 10 (take i word) → number_of word ≡ None
 number_of-too_large word i large =
-    let test : nat_le (digits_value 10 word) 999999999999999999 ≡ false = lt-leb _ _ (omega (arith, digits_value-take-le 10 word i (lit≤ tt))) in
+    let test : nat_le (digits_value 10 word) GREATEST_NUMBER ≡ false = lt-leb _ _ (omega (arith, digits_value-take-le 10 word i (lit≤ tt))) in
     let none : is_number word ≡ false = and_right _ _ (and_right _ _ test) in
     rw none refl

@@ -12,6 +12,7 @@ use Rattle.std.specs.List.{position_or_len, range_with_len, slice_split, sum_by}
 use Rattle.std.specs.Prelude.{◌==◌}
 use Rattle.std.specs.Str.Lines.{strip_carriage_return}
 use Rattle.pc_model.specs.declared.call.Call.{Call}
+use Rattle.pc_text.specs.declared.limits.TheConstants.{MOST_CLIENTS, MOST_COMMANDS}
 use Rattle.pc_text.specs.declared.kind.ScriptKind.{ScriptKind}
 use Rattle.pc_text.specs.declared.kind.ScriptKind.TheVariants.{TooManyLines}
 use Rattle.pc_text.specs.declared.line.LineClass.{LineClass}
@@ -77,11 +78,11 @@ pub record HasRead (bytes rest : List ℕ) (lists : List (List Call)) (line turn
   pub most : clients_of (classes_of bytes) ≡ max clients (clients_of (classes_of rest))
   pub calls : (place : ℕ) → calls_of (place + 1) 1 (classes_of bytes) ≡ get_or lists place [] ++ calls_of (place + 1) turn (classes_of rest)
   pub lines : line + length rest ≤ length bytes
-  pub turn_in : IsInRange 1 32 turn
-  pub clients_in : IsInRange 1 32 clients
-  pub many : length lists ≡ 32
+  pub turn_in : IsInRange 1 MOST_CLIENTS turn
+  pub clients_in : IsInRange 1 MOST_CLIENTS clients
+  pub many : length lists ≡ MOST_CLIENTS
   pub count : sum_by (λ calls. length calls) lists ≡ commands
-  pub few : commands ≤ 60000
+  pub few : commands ≤ MOST_COMMANDS
   pub in_range : AreInRange lists
 
 at_least_one : (lines : List LineClass) → 1 ≤ clients_of lines
@@ -98,7 +99,7 @@ count_none : (lists : List (List Call)) → All (λ calls. calls ≡ []) lists �
 count_none lists empty = omega (arith, sum_by-le (λ calls. length calls) 0 lists (λ k d below. rw (empty k d below) (omega arith)))
 
 -- 32 lists without calls
-pub has_read_none : (bytes : List ℕ) (lists : List (List Call)) → length lists ≡ 32 → All (λ calls. calls ≡ []) lists → HasRead bytes bytes lists 0 1 1 0
+pub has_read_none : (bytes : List ℕ) (lists : List (List Call)) → length lists ≡ MOST_CLIENTS → All (λ calls. calls ≡ []) lists → HasRead bytes bytes lists 0 1 1 0
 has_read_none bytes lists many empty = record {
   faults = refl;
   most = omega (arith, at_least_one (classes_of bytes));
@@ -128,7 +129,7 @@ has_read_skip bytes rest rest' lists line turn clients commands read next = reco
 }
 
 pub has_read_turn : (bytes rest rest' : List ℕ) (lists : List (List Call)) (line turn clients commands client : ℕ) → HasRead bytes rest lists line turn clients commands
-    → Reads rest rest' (Turn client) → IsInRange 1 32 client → HasRead bytes rest' lists (line + 1) client (max client clients) commands
+    → Reads rest rest' (Turn client) → IsInRange 1 MOST_CLIENTS client → HasRead bytes rest' lists (line + 1) client (max client clients) commands
 has_read_turn bytes rest rest' lists line turn clients commands client read next inside = record {
   faults = read.faults ∙ ap (first_bad (line + 1) commands) next.classes;
   most = read.most ∙ ap (λ lines. max clients (clients_of lines)) next.classes ∙ omega arith;
@@ -164,9 +165,9 @@ calls_other lists turn place call more other some =
     rw (test, get_or-set_other lists (turn - 1) place (get_or lists (turn - 1) [] ++ call ∷ []) [] apart) refl
 
 pub has_read_command : (bytes rest rest' : List ℕ) (lists : List (List Call)) (line turn clients commands : ℕ) (call : Call) → HasRead bytes rest lists line turn clients commands
-    → Reads rest rest' (Command call) → commands < 60000 → IsCallInRange call → HasRead bytes rest' (with_call lists turn call) (line + 1) turn clients (commands + 1)
+    → Reads rest rest' (Command call) → commands < MOST_COMMANDS → IsCallInRange call → HasRead bytes rest' (with_call lists turn call) (line + 1) turn clients (commands + 1)
 has_read_command bytes rest rest' lists line turn clients commands call read next room in_range =
-    let test : nat_lt commands 60000 ≡ true = lt-ltb commands 60000 room in
+    let test : nat_lt commands MOST_COMMANDS ≡ true = lt-ltb commands MOST_COMMANDS room in
     let own = get_or lists (turn - 1) [] in
     let below : turn - 1 < length lists = omega (arith, read.many, read.turn_in.0, read.turn_in.1) in
     record {
@@ -191,9 +192,9 @@ bad_at bytes rest rest' lists line turn clients commands kind read next =
     ap (λ fault. script_unless fault (script_of_classes (classes_of bytes))) (read.faults ∙ ap (first_bad (line + 1) commands) next.classes)
 
 pub full_at : (bytes rest rest' : List ℕ) (lists : List (List Call)) (line turn clients commands : ℕ) (call : Call) → HasRead bytes rest lists line turn clients commands
-    → Reads rest rest' (Command call) → 60000 ≤ commands → script_of bytes ≡ Err (line + 1, TooManyLines)
+    → Reads rest rest' (Command call) → MOST_COMMANDS ≤ commands → script_of bytes ≡ Err (line + 1, TooManyLines)
 full_at bytes rest rest' lists line turn clients commands call read next full =
-    let test : nat_lt commands 60000 ≡ false = le-ltb commands 60000 full in
+    let test : nat_lt commands MOST_COMMANDS ≡ false = le-ltb commands MOST_COMMANDS full in
     let last : first_bad (line + 1) commands (Command call ∷ classes_of rest') ≡ Some (line + 1, TooManyLines) = rw test refl in
     ap (λ fault. script_unless fault (script_of_classes (classes_of bytes))) (read.faults ∙ ap (first_bad (line + 1) commands) next.classes ∙ last)
 

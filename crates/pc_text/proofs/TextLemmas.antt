@@ -17,8 +17,10 @@ use Rattle.std.specs.Str.Parse.{digits_value}
 use Rattle.pc_model.specs.declared.call.Call.{Call}
 use Rattle.pc_model.specs.declared.call.Call.TheVariants.{Put, Get, Remove, Ceil, Floor}
 use Rattle.pc_text.proofs.NumberLemmas.{tells_list_all}
+use Rattle.pc_text.proofs.PlainLines.{plain_class}
 use Rattle.pc_text.proofs.ReadLemmas.{without_empty_last-more}
 use Rattle.pc_text.proofs.WordsLemmas.{words_of-blank, words_of-word}
+use Rattle.pc_text.specs.declared.limits.TheConstants.{GREATEST_NUMBER, MOST_COMMANDS}
 use Rattle.pc_text.specs.declared.line.LineClass.{LineClass}
 use Rattle.pc_text.specs.declared.line.LineClass.TheVariants.{Command}
 use Rattle.pc_text.specs.Lines.{without_empty_last, lines_of}
@@ -31,10 +33,10 @@ use Rattle.pc_text.specs.ScriptWords.{is_blank, is_number, keyword_of, words_of}
 -- ---- numbers
 
 -- numbers in range, among those of 64 bits
-fits : (n : ℕ) → n ≤ 999999999999999999 → n < 2 ^ 64
+fits : (n : ℕ) → n ≤ GREATEST_NUMBER → n < 2 ^ 64
 fits n small = omega arith
 
-decimal_digit : (n : ℕ) → n ≤ 999999999999999999 → All (IsInRange 48 57) (decimal n)
+decimal_digit : (n : ℕ) → n ≤ GREATEST_NUMBER → All (IsInRange 48 57) (decimal n)
 decimal_digit n small = λ k d below.
     let digit : IsInRange 48 57 (get_or (decimal n) k 0) = digits_decimal (numerals_by_value _ tells_by_index) n (fits n small) k below in
     rw (get_or_default_zero (decimal n) k d below) digit
@@ -45,20 +47,20 @@ dark_digit byte digit = or_from _ _ (ne_eqb byte 32 (λ same. omega (arith, digi
 plain_digit : (byte : ℕ) → IsInRange 48 57 byte → is_plain byte ≡ true
 plain_digit byte digit = or_right _ _ (and_from _ _ (le-leb 32 byte (omega (arith, digit.0))) (le-leb byte 126 (omega (arith, digit.1))))
 
-dark_decimal : (n : ℕ) → n ≤ 999999999999999999 → All (λ byte. is_blank byte ≡ false) (decimal n)
+dark_decimal : (n : ℕ) → n ≤ GREATEST_NUMBER → All (λ byte. is_blank byte ≡ false) (decimal n)
 dark_decimal n small = λ k d below. dark_digit _ (decimal_digit n small k d below)
 
-plain_decimal : (n : ℕ) → n ≤ 999999999999999999 → list_all is_plain (decimal n) ≡ true
+plain_decimal : (n : ℕ) → n ≤ GREATEST_NUMBER → list_all is_plain (decimal n) ≡ true
 plain_decimal n small = list_all-from_AllPass is_plain (decimal n) (λ k d below. plain_digit _ (decimal_digit n small k d below))
 
 -- what is written of a number is its number
 own : IsNumeralModel (λ ds. list_all is_ascii_digit ds ≡ true) (digits_value 10)
 own = numerals_by_value _ tells_list_all
 
-value_of : (n : ℕ) → n ≤ 999999999999999999 → digits_value 10 (decimal n) ≡ n
+value_of : (n : ℕ) → n ≤ GREATEST_NUMBER → digits_value 10 (decimal n) ≡ n
 value_of n small = digits_value-decimal own n (fits n small)
 
-number_written : (n : ℕ) → n ≤ 999999999999999999 → is_number (decimal n) ≡ true
+number_written : (n : ℕ) → n ≤ GREATEST_NUMBER → is_number (decimal n) ≡ true
 number_written n small =
     let value : digits_value 10 (decimal n) ≡ n = value_of n small in
     and_from _ _ (lt-ltb 0 (length (decimal n)) (decimal_nonempty n (fits n small)))
@@ -77,18 +79,16 @@ lone word some dark = ap words_of (sym (append-nil word)) ∙ words_of-word word
 spaced : (word rest : List ℕ) → 0 < length word → All (λ byte. is_blank byte ≡ false) word → words_of (word ++ 32 ∷ rest) ≡ word ∷ words_of rest
 spaced word rest some dark = words_of-word word (32 ∷ rest) some dark refl ∙ ap (λ words. word ∷ words) (words_of-blank 32 rest refl)
 
-number_word : (n : ℕ) → n ≤ 999999999999999999 → words_of (decimal n) ≡ decimal n ∷ []
+number_word : (n : ℕ) → n ≤ GREATEST_NUMBER → words_of (decimal n) ≡ decimal n ∷ []
 number_word n small = lone (decimal n) (decimal_nonempty n (fits n small)) (dark_decimal n small)
 
 -- ---- a line
 
-class_written : (line word : List ℕ) (words : List (List ℕ)) → words_of line ≡ word ∷ words → list_all is_plain line ≡ true → (get_or word 0 0 == 35) ≡ false → class_of line ≡ class_after (keyword_of word) words
-class_written line word words are plain command = rw (are, plain, command) refl
 
-single : (word : List ℕ) (n : ℕ) → 0 < length word → list_all (λ byte. not (is_blank byte)) word ≡ true → n ≤ 999999999999999999 → words_of (word ++ 32 ∷ decimal n) ≡ word ∷ decimal n ∷ []
+single : (word : List ℕ) (n : ℕ) → 0 < length word → list_all (λ byte. not (is_blank byte)) word ≡ true → n ≤ GREATEST_NUMBER → words_of (word ++ 32 ∷ decimal n) ≡ word ∷ decimal n ∷ []
 single word n some dark small = spaced word (decimal n) some (dark_word word dark) ∙ ap (λ words. word ∷ words) (number_word n small)
 
-words_of_put : (key value : ℕ) → key ≤ 999999999999999999 → value ≤ 999999999999999999 → words_of (line_of (Put key value)) ≡ codes "put" ∷ decimal key ∷ decimal value ∷ []
+words_of_put : (key value : ℕ) → key ≤ GREATEST_NUMBER → value ≤ GREATEST_NUMBER → words_of (line_of (Put key value)) ≡ codes "put" ∷ decimal key ∷ decimal value ∷ []
 words_of_put key value small light =
     spaced (codes "put") (decimal key ++ 32 ∷ decimal value) (lit< tt) (dark_word (codes "put") refl)
     ∙ ap (λ words. codes "put" ∷ words) (spaced (decimal key) (decimal value) (decimal_nonempty key (fits key small)) (dark_decimal key small)
@@ -103,19 +103,19 @@ plain_line (Floor key) in_range = plain_decimal key in_range
 
 class_of-line_of : (call : Call) → IsCallInRange call → class_of (line_of call) ≡ Command call
 class_of-line_of (Put key value) in_range =
-    class_written (line_of (Put key value)) (codes "put") (decimal key ∷ decimal value ∷ []) (words_of_put key value in_range.0 in_range.1) (plain_line (Put key value) in_range) refl
+    plain_class (line_of (Put key value)) (codes "put") (decimal key ∷ decimal value ∷ []) (words_of_put key value in_range.0 in_range.1) (plain_line (Put key value) in_range) refl
     ∙ rw (number_written key in_range.0, number_written value in_range.1, value_of key in_range.0, value_of value in_range.1) refl
 class_of-line_of (Get key) in_range =
-    class_written (line_of (Get key)) (codes "get") (decimal key ∷ []) (single (codes "get") key (lit< tt) refl in_range) (plain_line (Get key) in_range) refl
+    plain_class (line_of (Get key)) (codes "get") (decimal key ∷ []) (single (codes "get") key (lit< tt) refl in_range) (plain_line (Get key) in_range) refl
     ∙ rw (number_written key in_range, value_of key in_range) refl
 class_of-line_of (Remove key) in_range =
-    class_written (line_of (Remove key)) (codes "remove") (decimal key ∷ []) (single (codes "remove") key (lit< tt) refl in_range) (plain_line (Remove key) in_range) refl
+    plain_class (line_of (Remove key)) (codes "remove") (decimal key ∷ []) (single (codes "remove") key (lit< tt) refl in_range) (plain_line (Remove key) in_range) refl
     ∙ rw (number_written key in_range, value_of key in_range) refl
 class_of-line_of (Ceil key) in_range =
-    class_written (line_of (Ceil key)) (codes "ceil") (decimal key ∷ []) (single (codes "ceil") key (lit< tt) refl in_range) (plain_line (Ceil key) in_range) refl
+    plain_class (line_of (Ceil key)) (codes "ceil") (decimal key ∷ []) (single (codes "ceil") key (lit< tt) refl in_range) (plain_line (Ceil key) in_range) refl
     ∙ rw (number_written key in_range, value_of key in_range) refl
 class_of-line_of (Floor key) in_range =
-    class_written (line_of (Floor key)) (codes "floor") (decimal key ∷ []) (single (codes "floor") key (lit< tt) refl in_range) (plain_line (Floor key) in_range) refl
+    plain_class (line_of (Floor key)) (codes "floor") (decimal key ∷ []) (single (codes "floor") key (lit< tt) refl in_range) (plain_line (Floor key) in_range) refl
     ∙ rw (number_written key in_range, value_of key in_range) refl
 
 -- ---- the lines
@@ -159,10 +159,10 @@ classes_of-text_of (call ∷ calls) in_range =
     ∙ ap (λ class. class ∷ classes_of more) (class_of-line_of call here)
     ∙ ap (λ classes. Command call ∷ classes) (classes_of-text_of calls (λ k d below. in_range (suc k) d (omega arith)))
 
-first_bad-commands_of : (calls : List Call) (line before : ℕ) → before + length calls ≤ 60000 → first_bad line before (commands_of calls) ≡ None
+first_bad-commands_of : (calls : List Call) (line before : ℕ) → before + length calls ≤ MOST_COMMANDS → first_bad line before (commands_of calls) ≡ None
 first_bad-commands_of [] line before few = refl
 first_bad-commands_of (call ∷ calls) line before few =
-    let room : nat_lt before 60000 ≡ true = lt-ltb before 60000 (omega arith) in
+    let room : nat_lt before MOST_COMMANDS ≡ true = lt-ltb before MOST_COMMANDS (omega arith) in
     rw room (first_bad-commands_of calls (line + 1) (before + 1) (omega arith))
 
 clients_of-commands_of : (calls : List Call) → clients_of (commands_of calls) ≡ 1

@@ -3,6 +3,7 @@
 use Rattle.std.specs.Prelude.{ℕ, ◌+◌, ◌==◌, nat_lt, max, if◌then◌else◌, List, [], ◌∷◌, map, Option, Some, None, Result, Ok, Err}
 use Rattle.std.specs.List.{range_with_len}
 use Rattle.pc_model.specs.declared.call.Call.{Call}
+use Rattle.pc_text.specs.declared.limits.TheConstants.{MOST_COMMANDS}
 use Rattle.pc_text.specs.declared.kind.ScriptKind.{ScriptKind}
 use Rattle.pc_text.specs.declared.kind.ScriptKind.TheVariants.{TooManyLines}
 use Rattle.pc_text.specs.declared.line.LineClass.{LineClass}
@@ -22,7 +23,7 @@ first_bad line before [] = None
 first_bad line before (Skip ∷ more) = first_bad (line + 1) before more
 first_bad line before (Turn client ∷ more) = first_bad (line + 1) before more
 first_bad line before (Command call ∷ more) =
-    if nat_lt before 60000 then first_bad (line + 1) (before + 1) more else Some (line, TooManyLines)
+    if nat_lt before MOST_COMMANDS then first_bad (line + 1) (before + 1) more else Some (line, TooManyLines)
 first_bad line before (Bad kind ∷ more) = Some (line, kind)
 
 -- how many clients there are: client 1, and those up to the last that has a turn

@@ -3,6 +3,7 @@ use Rattle.std.specs.Prelude.{ℕ, Bool, false, not, ◌&&◌, ◌||◌, ◌==�
 use Rattle.std.specs.List.{list_all, list_any}
 use Rattle.std.specs.Str.Parse.{digits_value}
 use Rattle.pc_model.specs.declared.call.Call.TheVariants.{Put, Get, Remove, Ceil, Floor}
+use Rattle.pc_text.specs.declared.limits.TheConstants.{MOST_CLIENTS}
 use Rattle.pc_text.specs.declared.kind.ScriptKind.{ScriptKind}
 use Rattle.pc_text.specs.declared.kind.ScriptKind.TheVariants.{BadByte, UnknownWord, WordCount, BadNumber, TooManyClients}
 use Rattle.pc_text.specs.declared.line.Keyword.{Keyword}
@@ -40,7 +41,7 @@ abbrev pub has_bad_number : Option Keyword → List (List ℕ) → Bool
 has_bad_number first words = not (list_all is_number words) || names_client (λ client. client == 0) first words
 
 abbrev pub has_client_above : Option Keyword → List (List ℕ) → Bool
-has_client_above first words = names_client (λ client. nat_lt 32 client) first words
+has_client_above first words = names_client (λ client. nat_lt MOST_CLIENTS client) first words
 
 -- ---- what the line is
 

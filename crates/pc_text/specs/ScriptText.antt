@@ -3,6 +3,7 @@ use Rattle.std.specs.Prelude.{codes, ℕ, ◌≡◌, ◌≤◌, All, List, [], �
 use Rattle.std.specs.Fmt.{decimal}
 use Rattle.pc_model.specs.declared.call.Call.{Call}
 use Rattle.pc_model.specs.declared.call.Call.TheVariants.{Put, Get, Remove, Ceil, Floor}
+use Rattle.pc_text.specs.declared.limits.TheConstants.{MOST_COMMANDS}
 use Rattle.pc_text.specs.Script.{script_of}
 use Rattle.pc_text.specs.ScriptFacts.{IsCallInRange}
 
@@ -22,5 +23,5 @@ text_of (call ∷ calls) = line_of call ++ 10 ∷ text_of calls
 -- at most 60,000 commands that are written with numbers in range are a script of these calls
 abbrev pub ReadsBack : List Call → Type 0
 ReadsBack calls =
-    length calls ≤ 60000 → All IsCallInRange calls →
+    length calls ≤ MOST_COMMANDS → All IsCallInRange calls →
     script_of (text_of calls) ≡ Ok (record { clients = 1; calls = calls ∷ [] })

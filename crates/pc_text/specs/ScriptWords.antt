@@ -4,6 +4,7 @@ use Rattle.std.specs.Char.{is_ascii_digit}
 use Rattle.std.specs.List.{filter, list_all, slice_split}
 use Rattle.std.specs.Str.{bytes_eq}
 use Rattle.std.specs.Str.Parse.{digits_value}
+use Rattle.pc_text.specs.declared.limits.TheConstants.{GREATEST_NUMBER}
 use Rattle.pc_text.specs.declared.line.Keyword.{Keyword}
 use Rattle.pc_text.specs.declared.line.Keyword.TheVariants.{Client, Put, Get, Remove, Ceil, Floor}
 
@@ -28,7 +29,7 @@ keyword_of word =
 
 -- one or more digits whose value, in tens, is at most 999999999999999999
 abbrev pub is_number : List ℕ → Bool
-is_number word = nat_lt 0 (length word) && (list_all is_ascii_digit word && nat_le (digits_value 10 word) 999999999999999999)
+is_number word = nat_lt 0 (length word) && (list_all is_ascii_digit word && nat_le (digits_value 10 word) GREATEST_NUMBER)
 
 abbrev pub number_of : List ℕ → Option ℕ
 number_of word = if is_number word then Some (digits_value 10 word) else None

@@ -3,17 +3,14 @@ ghost use Rattle.std.specs.Prelude.{◌≡◌, ◌+◌, ◌≤◌, ◌==◌, dro
 ghost use Rattle.std.specs.List.{position_or_len};
 ghost use Rattle.std.specs.Str.Lines.{strip_carriage_return};
 
+use memchr::memchr;
+
 /// How many bytes stand before the first line feed.
 pub fn line_len(bytes: &[u8]) -> usize
     ensures place { result ≡ position_or_len (λ byte. byte == 10) bytes.now }
     ensures within { result ≤ length bytes.now }
 {
-    for (i, byte) in bytes.iter().enumerate() {
-        if *byte == b'\n' {
-            return i;
-        }
-    }
-    bytes.len()
+    memchr(b'\n', bytes).unwrap_or(bytes.len())
 }
 
 /// What follows a line of so many bytes and its line feed.

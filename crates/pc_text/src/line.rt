@@ -1,13 +1,15 @@
 //! The lines of a script: what each one is, by its words.
-ghost use Rattle.std.specs.Prelude.{◌≡◌, ◌≢◌, ◌≤◌, ℕ, List, [], ◌∷◌, length, Some};
+ghost use Rattle.std.specs.Prelude.{if◌then◌else◌, ◌≡◌, ◌≢◌, ◌≤◌, ℕ, List, [], ◌∷◌, length, Some};
 ghost use Rattle.std.specs.List.{list_all};
+ghost use Rattle.pc_text.specs.Arguments.{AreArguments};
 ghost use Rattle.pc_text.specs.ScriptFacts.{IsLineInRange};
 ghost use Rattle.pc_text.specs.ScriptLine.{class_after, class_of, is_plain};
 ghost use Rattle.pc_text.specs.ScriptWords.{keyword_of, number_of, words_of};
 
 use crate::kind::ScriptKind;
+use crate::limits::{GREATEST_NUMBER, MOST_CLIENTS};
 use crate::number::read_number;
-use crate::words::{first_word, lone_word};
+use crate::words::{Arguments, cut_arguments, first_word};
 use pc_model::Call;
 
 /// The words that begin a line.
@@ -34,25 +36,32 @@ pub enum LineClass {
     Bad(ScriptKind),
 }
 
-/// The most clients that a script names.
-pub const MOST_CLIENTS: u32 = 32;
-
 /// What a line is, without its end.
 pub fn read_line(line: &[u8]) -> LineClass
     ensures class { result ≡ class_of line.now }
     ensures in_range { IsLineInRange result }
 {
-    match first_word(line) {
-        Some((word, rest)) => {
-            if word[0] == b'#' {
-                LineClass::Skip
-            } else if is_plain_text(line) {
-                read_words(word, rest)
-            } else {
-                LineClass::Bad(ScriptKind::BadByte)
-            }
-        }
-        None => LineClass::Skip,
+    let Some((word, rest)) = first_word(line) else {
+        return LineClass::Skip;
+    };
+    if word[0] == b'#' {
+        return LineClass::Skip;
+    }
+    match class_of_words(read_keyword(word), cut_arguments(rest)) {
+        LineClass::Bad(kind) => LineClass::Bad(first_kind(line, kind)),
+        // Its words are plain and so are blanks: no byte of it need be looked at again.
+        class => class,
+    }
+}
+
+// A bad byte counts before what else is wrong with a line.
+fn first_kind(line: &[u8], kind: ScriptKind) -> ScriptKind
+    ensures { result ≡ (if list_all is_plain line.now then kind else ScriptKind.BadByte) }
+{
+    if is_plain_text(line) {
+        kind
+    } else {
+        ScriptKind::BadByte
     }
 }
 
@@ -72,18 +81,6 @@ fn is_plain_byte(byte: u8) -> bool
     ensures { result ≡ is_plain byte }
 {
     byte == b'\t' || (byte >= 32 && byte <= 126)
-}
-
-// A line of plain bytes, by its first word and what stands after it.
-fn read_words(word: &[u8], rest: &[u8]) -> LineClass
-    ensures class { result ≡ class_after (keyword_of word.now) (words_of rest.now) }
-    ensures in_range { IsLineInRange result }
-{
-    match read_keyword(word) {
-        Some(Keyword::Put) => read_put(rest),
-        Some(keyword) => read_single(keyword, rest),
-        None => LineClass::Bad(ScriptKind::UnknownWord),
-    }
 }
 
 fn read_keyword(word: &[u8]) -> Option<Keyword>
@@ -106,25 +103,19 @@ fn read_keyword(word: &[u8]) -> Option<Keyword>
     }
 }
 
-// What follows the word `put`.
-fn read_put(rest: &[u8]) -> LineClass
-    ensures class { result ≡ class_after (Some Keyword.Put) (words_of rest.now) }
+// A line of plain bytes, by its first word and the others.
+fn class_of_words(keyword: Option<Keyword>, arguments: Arguments) -> LineClass
+    ensures class { (words : List (List ℕ)) → AreArguments arguments.entry words → result ≡ class_after keyword words }
     ensures in_range { IsLineInRange result }
 {
-    match first_word(rest) {
-        Some((key, rest)) => read_pair(key, rest),
-        None => LineClass::Bad(ScriptKind::WordCount),
-    }
-}
-
-// The key of a put, and what follows it.
-fn read_pair(key: &[u8], rest: &[u8]) -> LineClass
-    ensures class { result ≡ class_after (Some Keyword.Put) (key.now ∷ words_of rest.now) }
-    ensures in_range { IsLineInRange result }
-{
-    match lone_word(rest) {
-        Some(value) => put_of(key, value),
-        None => LineClass::Bad(ScriptKind::WordCount),
+    let Some(keyword) = keyword else {
+        return LineClass::Bad(ScriptKind::UnknownWord);
+    };
+    match (keyword, arguments) {
+        (Keyword::Put, Arguments::Two(key, value)) => put_of(key, value),
+        (Keyword::Put, _) => LineClass::Bad(ScriptKind::WordCount),
+        (_, Arguments::One(word)) => single_of(keyword, word),
+        _ => LineClass::Bad(ScriptKind::WordCount),
     }
 }
 
@@ -135,18 +126,6 @@ fn put_of(key: &[u8], value: &[u8]) -> LineClass
     match (read_number(key), read_number(value)) {
         (Some(key), Some(value)) => LineClass::Command(Call::Put { key, value }),
         _ => LineClass::Bad(ScriptKind::BadNumber),
-    }
-}
-
-// What follows a word that takes one number.
-fn read_single(keyword: Keyword, rest: &[u8]) -> LineClass
-    requires { keyword ≢ Keyword.Put }
-    ensures class { result ≡ class_after (Some keyword) (words_of rest.now) }
-    ensures in_range { IsLineInRange result }
-{
-    match lone_word(rest) {
-        Some(word) => single_of(keyword, word),
-        None => LineClass::Bad(ScriptKind::WordCount),
     }
 }
 
@@ -164,7 +143,7 @@ fn single_of(keyword: Keyword, word: &[u8]) -> LineClass
 // The line of a word and its one number, however this is written.
 fn class_of_number(keyword: Keyword, number: u64) -> LineClass
     requires single { keyword ≢ Keyword.Put }
-    requires in_range { number ≤ 999999999999999999 }
+    requires in_range { number ≤ GREATEST_NUMBER }
     ensures class { (word : List ℕ) → number_of word ≡ Some number → result ≡ class_after (Some keyword) (word ∷ []) }
     ensures in_range { IsLineInRange result }
 {

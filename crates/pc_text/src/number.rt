@@ -2,13 +2,12 @@
 ghost use Rattle.std.specs.Prelude.{◌≡◌, ◌≤◌, IfSome};
 ghost use Rattle.pc_text.specs.ScriptWords.{number_of};
 
-/// The greatest number.
-const GREATEST: u64 = 999_999_999_999_999_999;
+use crate::limits::GREATEST_NUMBER;
 
 /// The number that a word is, if it is one. It is too large as soon as its digits so far are.
 pub fn read_number(word: &[u8]) -> Option<u64>
     ensures number { result ≡ number_of word.now }
-    ensures in_range { IfSome result (λ n. n ≤ 999999999999999999) }
+    ensures in_range { IfSome result (λ n. n ≤ GREATEST_NUMBER) }
 {
     if word.len() == 0 {
         return None;
@@ -19,7 +18,7 @@ pub fn read_number(word: &[u8]) -> Option<u64>
             return None;
         }
         value = value * 10 + u64::from(*byte - b'0');
-        if value > GREATEST {
+        if value > GREATEST_NUMBER {
             return None;
         }
     }

@@ -7,13 +7,11 @@ ghost use Rattle.pc_text.specs.ScriptFacts.{AreFew, AreInRange, IsFaultOf};
 
 use crate::cut::{after_line, line_len, without_return};
 use crate::kind::ScriptKind;
-use crate::line::{LineClass, MOST_CLIENTS, read_line};
+use crate::limits::{MOST_BYTES, MOST_CLIENTS, MOST_COMMANDS};
+use crate::line::{LineClass, read_line};
 use crate::script::{Script, ScriptFault};
 use pc_model::Call;
 use std::alloc::{AllocError, Global};
-
-/// The most commands that a script has.
-const MOST_COMMANDS: usize = 60_000;
 
 /// Reads a script: exactly where the bytes spell one it is the answer, and else the first bad line with
 /// what is wrong, unless memory is wanting.
@@ -22,10 +20,10 @@ const MOST_COMMANDS: usize = 60_000;
 /// words and around them. Lines without words and comments, which begin with `#`, are skipped. There
 /// are at most 32 clients, and at most 60,000 commands together. Before any `client` line the client is 1.
 pub fn read_script(alloc: Global, bytes: &[u8]) -> Result<Script, ScriptFault>
-    requires { length bytes.now ≤ 4194304 }
+    requires { length bytes.now ≤ MOST_BYTES }
     ensures script { IfOk result (λ script. script_of bytes.now ≡ Ok script) }
     ensures bad { IfErr result (IsFaultOf bytes.now) }
-    ensures some_clients { IfOk result (λ script. IsInRange 1 32 script.clients) }
+    ensures some_clients { IfOk result (λ script. IsInRange 1 MOST_CLIENTS script.clients) }
     ensures list_each { IfOk result (λ script. length script.calls ≡ script.clients) }
     ensures few { IfOk result (λ script. AreFew script.calls) }
     ensures in_range { IfOk result (λ script. AreInRange script.calls) }
@@ -68,7 +66,7 @@ pub fn read_script(alloc: Global, bytes: &[u8]) -> Result<Script, ScriptFault>
 // A list for each client that there may be.
 fn empty_lists(alloc: Global) -> Result<Vec<Vec<Call>>, AllocError>
     ensures lists { IfOk result (λ lists. All (λ list. list.items ≡ []) lists.items) }
-    ensures many { IfOk result (λ lists. vec_len lists ≡ 32) }
+    ensures many { IfOk result (λ lists. vec_len lists ≡ MOST_CLIENTS) }
 {
     let mut lists = Vec::new(alloc);
     for _ in 0..MOST_CLIENTS {

@@ -1,6 +1,7 @@
 //! The words of a line, which stand between blanks.
 ghost use Rattle.std.specs.Prelude.{◌≡◌, ◌≢◌, ◌<◌, ◌≤◌, [], ◌∷◌, length, MatchOption};
 ghost use Rattle.std.specs.List.{position_or_len, prefix_len};
+ghost use Rattle.pc_text.specs.Arguments.{AreArguments};
 ghost use Rattle.pc_text.specs.ScriptWords.{is_blank, words_of};
 
 /// The first word of a line, and what stands after it.
@@ -17,19 +18,28 @@ pub fn first_word(line: &[u8]) -> Option<(&[u8], &[u8])>
     Some((&text[..end], &text[end..]))
 }
 
-/// The word of a line of one word.
-pub fn lone_word(line: &[u8]) -> Option<&[u8]>
-    ensures { MatchOption result (length (words_of line.now) ≢ 1) (λ word. words_of line.now ≡ word.now ∷ []) }
+/// The words of a line after the first, where no command has more than two.
+#[derive(Clone, Copy)]
+pub enum Arguments<'a> {
+    None,
+    One(&'a [u8]),
+    Two(&'a [u8], &'a [u8]),
+    More,
+}
+
+/// Cuts the words that stand after the first one.
+pub fn cut_arguments(rest: &[u8]) -> Arguments
+    ensures { AreArguments result (words_of rest.now) }
 {
-    match first_word(line) {
-        Some((word, rest)) => {
-            if blanks_len(rest) == rest.len() {
-                Some(word)
-            } else {
-                None
-            }
-        }
-        None => None,
+    let Some((first, rest)) = first_word(rest) else {
+        return Arguments::None;
+    };
+    let Some((second, rest)) = first_word(rest) else {
+        return Arguments::One(first);
+    };
+    match first_word(rest) {
+        None => Arguments::Two(first, second),
+        Some(_) => Arguments::More,
     }
 }
 

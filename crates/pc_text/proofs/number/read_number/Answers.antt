@@ -13,8 +13,8 @@ loop-byte-preserved c =
       in_range = omega arith;
     }
 
-pub returns-then-value-gt-GREATEST-clause-number : goal.returns-then-value-gt-GREATEST-clause-number
-returns-then-value-gt-GREATEST-clause-number c =
+pub returns-then-value-gt-GREATEST_NUMBER-clause-number : goal.returns-then-value-gt-GREATEST_NUMBER-clause-number
+returns-then-value-gt-GREATEST_NUMBER-clause-number c =
     let below : c.loop-byte.byte-index < length c.args.word.now = omega arith in
     let digit : is_ascii_digit (get_or c.args.word.now c.loop-byte.byte-index 0) ≡ true = sym c.is_ascii_digit.ensures.value ∙ c.if-not-is_ascii_digit.false in
     sym (number_of-too_large c.args.word.now (c.loop-byte.byte-index + 1)
