@@ -1,15 +1,18 @@
 -- Reading turn by turn: what was taken so far, and one piece more.
-use Rattle.std.proofs.Common.{◌≡◌, ℕ, ◌+◌, ◌<◌, ◌≤◌, List, [], ◌++◌, length, Option, Some, None, refl, sym, ap, ◌∙◌, subst, append_assoc, arith, length-append}
-use Rattle.std.proofs.lemmas.List.{append-nil}
+use Rattle.std.proofs.Common.{◌≡◌, ℕ, ◌+◌, ◌<◌, ◌≤◌, List, [], ◌++◌, length, take, Option, Some, None, refl, sym, ap, ◌∙◌, subst, append_assoc, arith, length-append}
+use Rattle.std.proofs.lemmas.List.{append-nil, length-take-le}
 use Rattle.std.specs.Io.KnownBytes.{Consumes, IsAtEnd}
+use Rattle.pc_text.specs.declared.limits.TheConstants.{MOST_BYTES}
 use Rattle.pathmap.specs.Reading.{IsInput, IsLongerThan, TakesAtMost, TakesPiece}
 
--- so far these bytes were taken, at least one a turn
-pub record HasRead (old new : Option (List ℕ)) (bytes : List ℕ) (len turn : ℕ) : Type 0 where
-  pub takes : Consumes old new bytes
+-- so far the bytes that are filled were taken, at least one a turn
+pub record HasRead (old new : Option (List ℕ)) (bytes : List ℕ) (len filled turn : ℕ) : Type 0 where
+  pub takes : Consumes old new (take filled bytes)
   pub same : length bytes ≡ len
-  pub long : turn ≤ len
-  pub small : len ≤ 4194304
+  pub within : filled ≤ len
+  pub room : len ≤ MOST_BYTES + 1
+  pub long : turn ≤ filled
+  pub small : filled ≤ MOST_BYTES
 
 pub consumes_none : (left : Option (List ℕ)) → Consumes left left []
 consumes_none None = tt
@@ -41,3 +44,10 @@ piece_length b c before after n p = ap length p.appended ∙ length-append befor
 pub takes_at_most_more : (a b c : Option (List ℕ)) (bytes : List ℕ) (m n : ℕ) → Consumes a b bytes → length bytes + m ≤ n → TakesAtMost m b c → TakesAtMost n a c
 takes_at_most_more a b c bytes m n taken le t = let few : length t.taken ≤ m = t.few in
     record { taken = bytes ++ t.taken; takes = consumes_more a b c bytes t.taken taken t.takes; few = let e : length (bytes ++ t.taken) ≡ length bytes + length t.taken = length-append bytes t.taken in omega arith }
+
+-- what is taken after the bytes that are filled, with these
+pub takes_with_filled : (a b c : Option (List ℕ)) (bytes : List ℕ) (len filled turn m n : ℕ)
+    → HasRead a b bytes len filled turn → filled + m ≤ n → TakesAtMost m b c → TakesAtMost n a c
+takes_with_filled a b c bytes len filled turn m n h le t =
+    let long : length (take filled bytes) ≡ filled = length-take-le filled bytes (omega (arith, h.same, h.within)) in
+    takes_at_most_more a b c (take filled bytes) m n h.takes (omega arith) t

@@ -1,6 +1,10 @@
 -- What reading an input to its end takes of a source.
-use Rattle.std.specs.Prelude.{◌≡◌, ℕ, ◌<◌, ◌≤◌, List, ◌++◌, length, Option, IfSome}
+use Rattle.std.specs.Prelude.{◌≡◌, ℕ, ◌<◌, ◌≤◌, ⊤, List, ◌++◌, length, Option, IfSome}
 use Rattle.std.specs.Io.KnownBytes.{Consumes, IsAtEnd}
+use Rattle.pc_edge.specs.Faults.{HasRisen}
+use Rattle.pc_text.specs.declared.fault.Fault.{Fault}
+use Rattle.pc_text.specs.declared.fault.Fault.TheVariants.{Read, TooLargeInput, Memory}
+use Rattle.pc_text.specs.declared.limits.TheConstants.{MOST_BYTES}
 
 -- these are all the bytes that the source had, where it tells them
 abbrev pub IsInput : Option (List ℕ) → List ℕ → Type 0
@@ -9,6 +13,13 @@ IsInput left bytes = IfSome left (λ input. input ≡ bytes)
 -- the source had more bytes than this, where it tells them
 abbrev pub IsLongerThan : ℕ → Option (List ℕ) → Type 0
 IsLongerThan n left = IfSome left (λ input. n < length input)
+
+-- why an input isn't read to its end: a read failed, or it is too long, or memory was wanting
+abbrev pub IsReadFault : Option (List ℕ) → ℕ → ℕ → Fault → Type 0
+IsReadFault left faults faults' Read = HasRisen faults faults'
+IsReadFault left faults faults' TooLargeInput = IsLongerThan MOST_BYTES left
+IsReadFault left faults faults' Memory = ⊤
+IsReadFault left faults faults' _ = ⊥
 
 -- no more bytes than this were taken
 pub record TakesAtMost (n : ℕ) (old new : Option (List ℕ)) : Type 0 where

@@ -1,32 +1,33 @@
 -- How a run of the program ends: what was printed where it ended well, and why where it didn't.
-use Rattle.std.specs.Prelude.{◌≡◌, ◌≢◌, ℕ, ◌<◌, ◌≤◌, ◌⊎◌, List, length, Option, Ok, Err, IsErr, IfSome}
+use Rattle.std.specs.Prelude.{◌≡◌, ◌≢◌, ℕ, ◌<◌, ◌≤◌, ◌⊎◌, List, [], length, Option, Result, Ok, Err, IsErr, IfSome}
 use Rattle.std.specs.Io.KnownBytes.{Appends, IsAtEnd}
 use Rattle.pc_model.specs.declared.call.Entry.{Entry}
 use Rattle.pc_model.specs.Map.{Pairs}
 use Rattle.pc_edge.specs.Faults.{HasRisen}
-use Rattle.pc_edge.specs.Sending.{AppendsFront}
+use Rattle.pc_edge.specs.declared.traits.Failed.{Failed}
+use Rattle.pc_edge.specs.Sending.{AppendsFront, Writes}
 use Rattle.pc_text.specs.declared.fault.Fault.{Fault}
 use Rattle.pc_text.specs.declared.fault.Fault.TheVariants.{Usage, Script, Read, TooLargeInput, TooManySlots, Slots, Numbers, Memory, NotBuilt}
 use Rattle.pc_text.specs.declared.kind.ScriptKind.{ScriptKind}
+use Rattle.pc_text.specs.declared.limits.TheConstants.{MOST_BYTES}
+use Rattle.pc_text.specs.Fault.{status_of}
 use Rattle.pc_text.specs.FaultLine.{fault_line}
 use Rattle.pc_text.specs.Printed.{printed_run}
 use Rattle.pc_text.specs.Script.{script_of}
 use Rattle.pc_text.specs.ScriptValue.{ScriptValue}
-use Rattle.pathmap.specs.declared.reading.Unread.{Unread}
-use Rattle.pathmap.specs.declared.reading.Unread.TheVariants.{Failed, TooLarge, Memory as NoMemory}
 use Rattle.pathmap.specs.Running.{IsOneHistory}
 
 -- the bytes are no longer than an input may be, and spell this script
 abbrev pub SpellsScript : List ℕ → ScriptValue → Type 0
-SpellsScript bytes script = (length bytes ≤ 4194304) × (script_of bytes ≡ Ok script)
+SpellsScript bytes script = (length bytes ≤ MOST_BYTES) × (script_of bytes ≡ Ok script)
 
 -- they are too long
 abbrev pub IsTooLong : List ℕ → Type 0
-IsTooLong bytes = 4194304 < length bytes
+IsTooLong bytes = MOST_BYTES < length bytes
 
 -- this line is the first bad one, for this
 abbrev pub HasBadLine : List ℕ → ℕ → ScriptKind → Type 0
-HasBadLine bytes line kind = (length bytes ≤ 4194304) × (script_of bytes ≡ Err (line, kind))
+HasBadLine bytes line kind = (length bytes ≤ MOST_BYTES) × (script_of bytes ≡ Err (line, kind))
 
 -- they spell a script of more than one client
 abbrev pub SpellsMany : List ℕ → Type 0
@@ -34,7 +35,7 @@ SpellsMany bytes = (script : ScriptValue) × SpellsScript bytes script × (1 < s
 
 -- they spell no script, or one of more than one client
 abbrev pub IsRefused : List ℕ → Type 0
-IsRefused bytes = ((length bytes ≤ 4194304) × IsErr (script_of bytes)) ⊎ SpellsMany bytes
+IsRefused bytes = ((length bytes ≤ MOST_BYTES) × IsErr (script_of bytes)) ⊎ SpellsMany bytes
 
 -- the input was read to its end and spells a script, of which this is one history with the pairs left
 pub record HasRunAll (input rest : Option (List ℕ)) (history : List Entry) (pairs : Pairs) : Type 0 where
@@ -57,18 +58,6 @@ pub record PrintsFront (input rest held held' : Option (List ℕ)) : Type 0 wher
   pub run : HasRunAll input rest history pairs
   pub front : AppendsFront held held' (printed_run history pairs)
 
--- the status of each fault
-abbrev pub status_of : Fault → ℕ
-status_of Usage = 2
-status_of (Script line kind) = 3
-status_of Read = 4
-status_of TooLargeInput = 6
-status_of TooManySlots = 6
-status_of (Slots client number) = 7
-status_of (Numbers counter) = 8
-status_of Memory = 9
-status_of NotBuilt = 3
-
 -- why a run ends in a fault: there isn't exactly one word, the input is too long, it has a bad line or
 -- more than one client, or the source failed; want of memory needs no cause, and the other faults don't
 -- come
@@ -84,19 +73,20 @@ IsCauseOf words input faults faults' (Slots client number) = ⊥
 IsCauseOf words input faults faults' (Numbers counter) = ⊥
 
 -- the fault's line was written, whole or up to where the sink failed
-abbrev pub WritesFault : Option (List ℕ) → Option (List ℕ) → ℕ → ℕ → Fault → Type 0
-WritesFault held held' faults faults' fault = Appends held held' (fault_line fault) ⊎ (AppendsFront held held' (fault_line fault) × HasRisen faults faults')
+abbrev pub WritesFault : {K : Type 0} → (K → Option (List ℕ)) → (K → ℕ) → K → K → Fault → Type 0
+WritesFault held faults old new fault =
+    (written : Result (Unit {0}) Failed) × Writes held faults old new (fault_line fault) [] written
 
 -- the run ended in a fault that has its cause, with its status and its line
-pub record EndsInFault (status words : ℕ) (input : Option (List ℕ)) (source_faults source_faults' : ℕ) (held held' : Option (List ℕ)) (sink_faults sink_faults' : ℕ) : Type 0 where
+pub record EndsInFault (status : ℕ) (IsCause WritesLine : Fault → Type 0) : Type 0 where
   pub fault : Fault
   pub status_is : status ≡ status_of fault
-  pub cause : IsCauseOf words input source_faults source_faults' fault
-  pub line : WritesFault held held' sink_faults sink_faults' fault
+  pub cause : IsCause fault
+  pub line : WritesLine fault
 
 -- the run ends with this status, unless a read failed or memory was wanting
 abbrev pub EndsUnlessStopped : ℕ → ℕ → Type 0
-EndsUnlessStopped wanted status = (status ≡ wanted) ⊎ ((status ≡ 4) ⊎ (status ≡ 9))
+EndsUnlessStopped wanted status = (status ≡ wanted) ⊎ ((status ≡ status_of Read) ⊎ (status ≡ status_of Memory))
 
 -- the bytes spell a script, of which this is one history with the pairs left
 pub record RunsBytes (bytes : List ℕ) (history : List Entry) (pairs : Pairs) : Type 0 where
@@ -110,13 +100,3 @@ IsBytesFault bytes (Script line kind) = script_of bytes ≡ Err (line, kind)
 IsBytesFault bytes NotBuilt = (script : ScriptValue) × (script_of bytes ≡ Ok script) × (1 < script.clients)
 IsBytesFault bytes Memory = Unit {0}
 IsBytesFault bytes _ = ⊥
-
-abbrev pub unread_fault : Unread → Fault
-unread_fault Failed = Read
-unread_fault TooLarge = TooLargeInput
-unread_fault NoMemory = Memory
-
--- status 0 where the run was printed whole, and 5 where the sink failed before
-abbrev pub PrintsOrStops : Option (List ℕ) → Option (List ℕ) → ℕ → ℕ → List Entry → Pairs → ℕ → Type 0
-PrintsOrStops held held' faults faults' history pairs status = ((status ≡ 0) × Appends held held' (printed_run history pairs))
-    ⊎ ((status ≡ 5) × AppendsFront held held' (printed_run history pairs) × HasRisen faults faults')

@@ -4,6 +4,7 @@
 
 ghost use Rattle.std.specs.Prelude.{◌≡◌, ◌≢◌};
 ghost use Rattle.pathmap.specs.Serving.{WritesFault};
+ghost use Rattle.pc_text.specs.Fault.{status_of};
 
 mod reading;
 mod running;
@@ -11,14 +12,14 @@ mod serve;
 
 use pc_edge::{OpenGate, Sink, StdSink, StdSource};
 use pc_text::Fault;
-use serve::{refuse, serve};
+use serve::{Outcome, refuse, serve};
 use std::alloc::{AllocError, Global};
 use std::io::ErrorKind;
 use std::process::ExitCode;
 use std::{env, io};
 
-/// The status where there is no memory for the words of the command line.
-const NO_WORDS: u8 = 10;
+/// How a run ends where there is no memory for the words of the command line.
+const NO_WORDS: Outcome = Outcome { status: 10 };
 
 fn main(rt: HostRuntime) -> ExitCode {
     let mut source = StdSource {
@@ -29,20 +30,18 @@ fn main(rt: HostRuntime) -> ExitCode {
         inner: io::writer(&rt),
         faults: 0,
     };
-    let words = match words_of(rt.alloc(), &rt) {
-        Ok(words) => words,
-        Err(error) => return ExitCode::from(refuse_words(&mut sink, error.kind())),
+    let outcome = match words_of(rt.alloc(), &rt) {
+        Ok(words) => serve(&rt, rt.alloc(), &words, &mut source, &mut sink, &OpenGate),
+        Err(error) => refuse_words(&mut sink, error.kind()),
     };
-    let outcome = serve(&rt, rt.alloc(), &words, &mut source, &mut sink, &OpenGate);
     ExitCode::from(outcome.status)
 }
 
 /// A word that isn't UTF-8 makes a faulty command line. Where memory was wanting, nothing is written.
-fn refuse_words<K: Sink>(sink: &mut K, error: ErrorKind) -> u8
-    ensures usage { error ≡ ErrorKind.InvalidData → result ≡ 2 }
-    ensures line { error ≡ ErrorKind.InvalidData →
-        WritesFault (K.held sink.old) (K.held sink.new) (K.faults sink.old) (K.faults sink.new) Fault.Usage }
-    ensures no_words { error ≢ ErrorKind.InvalidData → result ≡ 10 }
+fn refuse_words<K: Sink>(sink: &mut K, error: ErrorKind) -> Outcome
+    ensures usage { error ≡ ErrorKind.InvalidData → result.status ≡ status_of Fault.Usage }
+    ensures line { error ≡ ErrorKind.InvalidData → WritesFault K.held K.faults sink.old sink.new Fault.Usage }
+    ensures no_words { error ≢ ErrorKind.InvalidData → result ≡ NO_WORDS }
     ensures unwritten { error ≢ ErrorKind.InvalidData → sink.new ≡ sink.old }
 {
     if error == ErrorKind::InvalidData {

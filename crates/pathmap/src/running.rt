@@ -13,10 +13,11 @@ use pc_model::{Call, Entry, Memory, Reply};
 use pc_order::{CeilPlan, FloorPlan};
 use pc_plain::{PlainCells, pairs, run_plan};
 use pc_plan::Plan;
+use pc_text::MOST_COMMANDS;
 use std::alloc::Global;
 
 /// What a run leaves: its history, and the pairs of the map by rising key.
-#[derive(Drop)]
+#[derive(Debug, Drop)]
 pub struct Run {
     pub history: Vec<Entry>,
     pub pairs: Vec<(u64, u64)>,
@@ -24,7 +25,7 @@ pub struct Run {
 
 /// Runs the calls of client 1 on a map of its own.
 pub fn run_alone(alloc: Global, calls: &[Call]) -> Result<Run, Memory>
-    requires few { length calls.now ≤ 60000 }
+    requires few { length calls.now ≤ MOST_COMMANDS }
     requires in_range { All IsCallInRange calls.now }
     ensures { IfOk result (λ run. IsOneHistory (calls.now ∷ []) run.history.items run.pairs.items) }
 {
@@ -36,9 +37,9 @@ pub fn run_alone(alloc: Global, calls: &[Call]) -> Result<Run, Memory>
 
 // How many of the calls are puts: each takes at most one slot.
 fn count_puts(calls: &[Call]) -> u32
-    requires { length calls.now ≤ 60000 }
+    requires { length calls.now ≤ MOST_COMMANDS }
     ensures puts { result ≡ puts_in calls.now }
-    ensures few { result ≤ 60000 }
+    ensures few { result ≤ MOST_COMMANDS }
 {
     let mut puts = 0;
     for call in calls {
@@ -60,7 +61,7 @@ fn one_for_put(call: &Call) -> u32
 fn run_calls(alloc: Global, cells: &mut PlainCells, calls: &[Call]) -> Result<Vec<Entry>, Memory>
     requires empty { IsEmptyTree cells.old }
     requires size { cells.old.slots ≡ puts_in calls.now + 1 }
-    requires few { length calls.now ≤ 60000 }
+    requires few { length calls.now ≤ MOST_COMMANDS }
     requires in_range { All IsCallInRange calls.now }
     ensures { IfOk result (λ history. HasRun cells.old.slots calls.now cells.new history.items) }
 {
@@ -76,7 +77,7 @@ fn run_calls(alloc: Global, cells: &mut PlainCells, calls: &[Call]) -> Result<Ve
 
 // The entry of the call at a place, from 0, of client 1.
 fn entry_of(place: usize, call: Call, reply: Reply) -> Entry
-    requires { place < 60000 }
+    requires { place < MOST_COMMANDS }
     ensures { result ≡ record { pass = 1; number = place + 1; call = call; reply = reply; stamp = place + 1 } }
 {
     Entry {

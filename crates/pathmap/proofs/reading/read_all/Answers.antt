@@ -1,19 +1,31 @@
-use Rattle.std.proofs.Common.{◌≡◌, ◌-◌, ◌≤◌, vec_len, length, arith}
-use Rattle.pathmap.proofs.Turns.{takes_at_most_more}
+-- What a turn takes comes behind what was taken before.
+use Rattle.std.proofs.Common.{◌≡◌, ℕ, ◌+◌, ◌≤◌, length, take, vec_len, sym, ap, ◌∙◌, subst, arith}
+use Rattle.std.proofs.lemmas.List.{take-take, take-append-le}
+use Rattle.std.specs.Io.KnownBytes.{Consumes}
+use Rattle.pathmap.specs.Reading.{IsInput}
+use Rattle.pathmap.proofs.Turns.{takes_with_filled, with_piece, whole_input}
 use Rattle.pathmap.proofs.reading.read_all.Goals as goal
 
 pub returns-in_err-count-clause-few : goal.returns-in_err-count-clause-few
 returns-in_err-count-clause-few g c =
-    let h = c.turns.invariant.0 in
-    let same : length c.turns.bytes.items ≡ vec_len c.turns.bytes = h.same in
-    let small : vec_len c.turns.bytes ≤ 4194304 = h.small in
-    takes_at_most_more (g.S.Source.left c.args.source.now) (g.S.Source.left c.turns.source) (g.S.Source.left c.read_piece.new.source) c.turns.bytes.items
-    (4194305 - vec_len c.turns.bytes) 4194305 h.takes (omega arith) c.read_piece.ensures.few
+    let small = c.turns.invariant.read.small in
+    takes_with_filled _ _ _ _ _ c.turns.filled _ _ _ c.turns.invariant.read
+    (omega (arith, c.deref_mut.ensures.len, c.in_ok-make_room.ensures.small, c.in_ok-make_room.ensures.room)) c.read_piece.ensures.few
 
-pub returns-then-len-gt-LIMIT-clause-few : goal.returns-then-len-gt-LIMIT-clause-few
-returns-then-len-gt-LIMIT-clause-few g c =
-    let h = c.turns.invariant.0 in
-    let same : length c.turns.bytes.items ≡ vec_len c.turns.bytes = h.same in
-    let small : vec_len c.turns.bytes ≤ 4194304 = h.small in
-    takes_at_most_more (g.S.Source.left c.args.source.now) (g.S.Source.left c.turns.source) (g.S.Source.left c.read_piece.new.source) c.turns.bytes.items
-    (4194305 - vec_len c.turns.bytes) 4194305 h.takes (omega arith) c.read_piece.ensures.few
+pub returns-then-count-eq0-clause-few : goal.returns-then-count-eq0-clause-few
+returns-then-count-eq0-clause-few g c =
+    takes_with_filled _ _ _ _ _ c.turns.filled _ _ _ c.turns.invariant.read
+    (omega (arith, c.deref_mut.ensures.len, c.in_ok-make_room.ensures.small, c.in_ok-make_room.ensures.room)) c.read_piece.ensures.few
+
+pub returns-then-count-eq0-clause-whole : goal.returns-then-count-eq0-clause-whole
+returns-then-count-eq0-clause-whole g c =
+    let h = c.turns.invariant.read in
+    let same : take c.turns.filled c.deref_mut.result.now ≡ take c.turns.filled c.turns.bytes.items =
+    ap (take c.turns.filled) c.deref_mut.ensures.value ∙ c.in_ok-make_room.ensures.kept in
+    let none : c.turns.filled + c.in_ok-count.count ≡ c.turns.filled = omega (arith, c.if-count-eq0.true) in
+    let cut = c.truncate.ensures.items ∙ take-take c.turns.filled _ _ (omega (arith, c.in_ok-make_room.ensures.room))
+    ∙ take-append-le c.turns.filled c.read_piece.new.bytes _
+    (omega (arith, c.read_piece.auto.bytes, c.deref_mut.ensures.len, c.in_ok-make_room.ensures.room)) in
+    let whole = whole_input _ _ _ (with_piece _ _ _ _ _ _ (subst (Consumes _ _) (sym same) h.takes) c.in_ok-count.ensures.piece)
+    (c.in_ok-count.ensures.piece.end c.if-count-eq0.true) in
+    subst (IsInput _) (ap (λ n. take n c.read_piece.new.bytes) none ∙ sym cut) whole
