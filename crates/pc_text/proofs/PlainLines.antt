@@ -76,8 +76,14 @@ other_text word text plain odd = false_from_ne_true _
 
 no_keyword : (word : List ℕ) → list_all is_plain word ≡ false → keyword_of word ≡ None
 no_keyword word odd =
-    rw (other_text word (codes "client") refl odd, other_text word (codes "put") refl odd, other_text word (codes "get") refl odd,
-    other_text word (codes "remove") refl odd, other_text word (codes "ceil") refl odd, other_text word (codes "floor") refl odd) refl
+    rw (
+      other_text word (codes "client") refl odd,
+      other_text word (codes "put") refl odd,
+      other_text word (codes "get") refl odd,
+      other_text word (codes "remove") refl odd,
+      other_text word (codes "ceil") refl odd,
+      other_text word (codes "floor") refl odd,
+    ) refl
 
 abbrev pub IsGood : LineClass → Type 0
 IsGood class = (kind : ScriptKind) → class ≡ Bad kind → ⊥

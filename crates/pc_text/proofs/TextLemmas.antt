@@ -84,7 +84,6 @@ number_word n small = lone (decimal n) (decimal_nonempty n (fits n small)) (dark
 
 -- ---- a line
 
-
 single : (word : List ℕ) (n : ℕ) → 0 < length word → list_all (λ byte. not (is_blank byte)) word ≡ true → n ≤ GREATEST_NUMBER → words_of (word ++ 32 ∷ decimal n) ≡ word ∷ decimal n ∷ []
 single word n some dark small = spaced word (decimal n) some (dark_word word dark) ∙ ap (λ words. word ∷ words) (number_word n small)
 
