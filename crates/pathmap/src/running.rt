@@ -4,14 +4,16 @@ ghost use Rattle.pc_model.specs.Calls.{is_put, puts_in};
 ghost use Rattle.pc_model.specs.Counts.{one_if};
 ghost use Rattle.pc_text.specs.ScriptFacts.{IsCallInRange};
 ghost use Rattle.pc_plain.specs.PlainCells.{IsEmptyTree};
-ghost use Rattle.pc_plain.specs.PlainRuns.{IsRunOf, RunsRight};
-ghost use Rattle.pc_bst.specs.PlainTrees.{IsPlainTree};
+ghost use Rattle.pc_model.specs.Trees.{plain};
+ghost use Rattle.pc_model.specs.TreeForms.{tree_form};
+ghost use Rattle.pc_plan.specs.Quiet.{AsksForNoExchange};
+ghost use Rattle.pc_plain.specs.PlainRuns.{HoldsPairs, RunsRight};
 ghost use Rattle.pathmap.specs.Running.{IsOneHistory, HasRoomFor, AnswersAs, HasRun};
 
 use pc_bst::{BstGet, BstPut, BstRemove};
 use pc_model::{Call, Entry, Memory, Reply};
-use pc_order::{CeilPlan, FloorPlan};
-use pc_plain::{PlainCells, pairs, run_plan};
+use pc_order::{CeilPlan, FloorPlan, plans_change_nothing};
+use pc_plain::{PlainCells, pairs, quiet_plans_change_nothing, run_plan};
 use pc_plan::Plan;
 use pc_text::MOST_COMMANDS;
 use std::alloc::Global;
@@ -91,28 +93,43 @@ fn entry_of(place: usize, call: Call, reply: Reply) -> Entry
 
 // Runs a call on a tree that has a slot left.
 fn answer(cells: &mut PlainCells, call: Call) -> Reply
-    requires room { HasRoomFor IsPlainTree cells.old }
+    requires room { HasRoomFor (tree_form plain) cells.old }
     requires in_range { IsCallInRange call }
     ensures right { AnswersAs call cells.old cells.new result }
     ensures size { cells.new.slots ≡ cells.old.slots }
 {
+    plans_change_nothing();
     match call {
         Call::Put { key, value } => reply_by::<BstPut>(cells, (key, value)),
         Call::Get { key } => reply_by::<BstGet>(cells, key),
         Call::Remove { key } => reply_by::<BstRemove>(cells, key),
-        Call::Ceil { key } => reply_by::<CeilPlan>(cells, key),
-        Call::Floor { key } => reply_by::<FloorPlan>(cells, key),
+        Call::Ceil { key } => look_by::<CeilPlan>(cells, key),
+        Call::Floor { key } => look_by::<FloorPlan>(cells, key),
     }
 }
 
 // Runs the plan of a call on cells that have a slot left.
 fn reply_by<P: Plan>(cells: &mut PlainCells, call: P::Call) -> Reply
     requires call { P.can_call call }
-    requires room { HasRoomFor P.sound cells.old }
-    ensures run { IsRunOf P.start P.moves call cells.old cells.new result }
-    ensures right { RunsRight P.sound (P.call_of call) cells.old cells.new result }
+    requires room { HasRoomFor P.form cells.old }
+    ensures right { RunsRight P.form (P.terms call) cells.old cells.new result }
     ensures size { cells.new.slots ≡ cells.old.slots }
 {
+    match run_plan::<P>(cells, call) {
+        Ok(reply) => reply,
+        Err(_) => unreachable!(),
+    }
+}
+
+// Runs the plan of a call that asks for no exchange: the cells stay as they are.
+fn look_by<P: Plan>(cells: &mut PlainCells, call: P::Call) -> Reply
+    requires call { P.can_call call }
+    requires sound { HoldsPairs P.form cells.old }
+    requires quiet { AsksForNoExchange P.start P.moves P.can_call }
+    ensures right { RunsRight P.form (P.terms call) cells.old cells.new result }
+    ensures stays { cells.new ≡ cells.old }
+{
+    quiet_plans_change_nothing::<P>();
     match run_plan::<P>(cells, call) {
         Ok(reply) => reply,
         Err(_) => unreachable!(),
