@@ -35,8 +35,8 @@ use Rattle.pc_order.specs.Nearest.{nearest_on, kept_on, nearest-reply, nearest-s
 use Rattle.pc_order.specs.Nearest.{nearest-hole, nearest-before, nearest-behind}
 
 -- the key that a search met last, and the pair that it remembers
-abbrev pub Memory : Type 0
-Memory = ℕ × Option (ℕ × ℕ)
+abbrev pub Recalled : Type 0
+Recalled = ℕ × Option (ℕ × ℕ)
 
 module _ (side : Side) (slots : ℕ) (c : Cells) (kind : Kind) (ps : Pairs) (few : slots ≤ 61000)
     (tree : IsSearchTree kind slots c ps) (k : ℕ) where
@@ -60,21 +60,21 @@ module _ (side : Side) (slots : ℕ) (c : Cells) (kind : Kind) (ps : Pairs) (few
   abbrev IsInOr : Tree → Option (ℕ × ℕ) → Type 0
   IsInOr t o = nearest_on side k ps ≡ found_or (nearest_on side k (pairs_of c t)) o
 
-  abbrev walking : Memory → Walk → Search
+  abbrev walking : Recalled → Walk → Search
   walking d w = search_at side w Walking d.0 d.1
 
   -- a search whose walk has come to a node below a link of another one, and one that reads a link there
-  abbrev below : Memory → ℕ → Side → ℕ → Awaited → Search
+  abbrev below : Recalled → ℕ → Side → ℕ → Awaited → Search
   below d q s n a = walking d (walk_at slots c kind ps few tree k (left_node slots c kind ps few tree k q s) n a)
 
-  abbrev on_link : Memory → ℕ → Side → ℕ → Side → Search × Ask
+  abbrev on_link : Recalled → ℕ → Side → ℕ → Side → Search × Ask
   on_link d q s n t = (below d q s n (Link t), AskRead n (link_of t))
 
   -- At a node whose key was told.
   module _ (q : ℕ) (s : Side) (n : ℕ) (l r : Tree) (h : HoleHere q s (Fork n l r)) (turns : ℕ)
-      (to_left : (d : Memory) → k < c n KeyField → (past : List Event) → IsInOr l d.1 → IsUnseen l past
+      (to_left : (d : Recalled) → k < c n KeyField → (past : List Event) → IsInOr l d.1 → IsUnseen l past
       → Goes turns past (on_link d q s n Left))
-      (to_right : (d : Memory) → c n KeyField < k → (past : List Event) → IsInOr r d.1 → IsUnseen r past
+      (to_right : (d : Recalled) → c n KeyField < k → (past : List Event) → IsInOr r d.1 → IsUnseen r past
       → Goes turns past (on_link d q s n Right)) where
     abbrev key : ℕ
     key = c n KeyField
@@ -87,7 +87,7 @@ module _ (side : Side) (slots : ℕ) (c : Cells) (kind : Kind) (ps : Pairs) (few
     apart = hole_apart kind slots c ps tree.tree k q (link_of s) n l r tree.rising h
 
     -- a search that remembers what it met so far goes on toward its key
-    goes_on : (d : Memory) (past : List Event) (o : Option (ℕ × ℕ)) → key ≢ k → IsInOr (Fork n l r) o
+    goes_on : (d : Recalled) (past : List Event) (o : Option (ℕ × ℕ)) → key ≢ k → IsInOr (Fork n l r) o
         → kept_on side k (pair_of c n) o ≡ d.1 → IsUnseen l past → IsUnseen r past
         → Goes turns past (going_on (below d q s n Choice) key)
     goes_on d past o other near kept unseen_l unseen_r = ⊎_elim (λ same. absurd (other (sym same))) (λ sides. ⊎_elim
@@ -104,7 +104,7 @@ module _ (side : Side) (slots : ℕ) (c : Cells) (kind : Kind) (ps : Pairs) (few
         sides) (cases_order k key)
 
     -- the pair is remembered where it lies on the side; where it has the key the search ends
-    meets : (d : Memory) (past : List Event) → IsInOr (Fork n l r) d.1 → IsUnseen l past → IsUnseen r past
+    meets : (d : Recalled) (past : List Event) → IsInOr (Fork n l r) d.1 → IsUnseen l past → IsUnseen r past
         → Goes (suc turns) past (walked (below d q s n Choice) (Here key))
     meets d past near unseen_l unseen_r =
         let here : Search = below d q s n Choice in

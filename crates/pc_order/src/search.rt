@@ -47,6 +47,7 @@ fn is_on(side: Side, asked: u64, key: u64) -> bool
     }
 }
 
+#[inline]
 fn reply_of(nearest: Option<(u64, u64)>) -> Reply
     ensures { result ≡ pair_or_nothing nearest }
 {
