@@ -9,6 +9,7 @@ pub mod Holes
 pub mod Insertion
 pub mod Links
 pub mod MapLawProofs
+pub mod NodeKeys
 pub mod OrderedMaps
 pub mod Readings
 pub mod ReadingsWorked
