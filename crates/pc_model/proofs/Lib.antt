@@ -8,6 +8,7 @@ pub mod Histories
 pub mod HolePairs
 pub mod Holes
 pub mod Insertion
+pub mod InsertionDebts
 pub mod Links
 pub mod MapLawProofs
 pub mod NodeKeys
@@ -15,6 +16,7 @@ pub mod OrderedMaps
 pub mod Readings
 pub mod ReadingsWorked
 pub mod Removal
+pub mod RemovalDebts
 pub mod Replaying
 pub mod Sides
 pub mod Sizes
