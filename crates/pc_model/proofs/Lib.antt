@@ -15,6 +15,7 @@ pub mod NodeKeys
 pub mod OrderedMaps
 pub mod Readings
 pub mod ReadingsWorked
+pub mod Reheighting
 pub mod Removal
 pub mod RemovalDebts
 pub mod Replaying
