@@ -19,12 +19,14 @@ pub mod Reheighting
 pub mod Removal
 pub mod RemovalDebts
 pub mod Replaying
+pub mod Rotation
 pub mod Sides
 pub mod Sizes
 pub mod SortedLists
 pub mod Soundness
 pub mod TreeFormLaws
 pub mod TreeNodes
+pub mod Turning
 pub mod Worked
 pub mod WorkedBalance
 pub mod WorkedCells
