@@ -2,6 +2,7 @@ pub mod Counting
 pub mod DebtLists
 pub mod DebtReasons
 pub mod DebtsBrought
+pub mod DoubleRotation
 pub mod Framing
 pub mod Heights
 pub mod Histories
