@@ -33,4 +33,5 @@ pub mod WorkedBalance
 pub mod WorkedCells
 pub mod WorkedDebts
 pub mod WorkedRemoval
+pub mod WorkedRotation
 pub mod Writes
