@@ -7,6 +7,8 @@ mod get;
 mod laws;
 mod put;
 mod remove;
+#[cfg(test)]
+mod tests;
 
 pub use get::BstGet;
 pub use laws::{plans_charge_nothing, plans_end_as_their_calls_do, plans_stand_for_their_calls};
