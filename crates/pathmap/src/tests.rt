@@ -1,11 +1,29 @@
-//! What `serve` answers and prints, over sources and sinks in memory.
+//! What `serve` answers, reads and prints, over sources and sinks in memory.
 ghost use Rattle.std.specs.Prelude.{◌≤◌};
 
 use super::*;
-use pc_edge::{MemorySink, MemorySource};
+use pc_edge::{Gate, MemorySink, MemorySource};
+use pc_text::MOST_BYTES;
 use std::sync::Wait;
+use std::sync::atomic::{AtomicU64, Ordering};
 use std::test::Fail;
 use std::thread::Threads;
+
+/// A gate that counts its calls.
+#[derive(Drop)]
+struct CountingGate {
+    calls: AtomicU64,
+}
+
+impl Gate for CountingGate {
+    fn before(&self, _client: u32, _number: u32) {
+        self.calls.fetch_add(1, Ordering::SeqCst);
+    }
+
+    fn after(&self, _client: u32, _number: u32) {
+        self.calls.fetch_add(1, Ordering::SeqCst);
+    }
+}
 
 // A source whose reads give at most so many bytes, and fail at the listed numbers.
 fn source_of(bytes: Vec<u8>, piece: usize, fails: Vec<u64>) -> MemorySource
@@ -29,27 +47,21 @@ fn strings_of(alloc: Global, words: &[&str]) -> Result<Vec<String>, AllocError> 
     Ok(strings)
 }
 
-fn spaces(alloc: Global, count: usize) -> Result<Vec<u8>, AllocError> {
-    vec![in alloc; b' '; count]
-}
-
-fn gets(alloc: Global, count: usize) -> Result<Vec<u8>, AllocError> {
-    let mut bytes = Vec::new(alloc);
-    for _ in 0..count {
-        bytes.extend_from_slice(b"get 1\n")?;
-    }
-    Ok(bytes)
-}
-
-// Serves a source with the one word and an open gate.
-fn status_of_run<R: Threads + Wait + Sync>(
+// Serves a source: with which status, after how many reads, and after how many calls of the gate.
+fn run<R: Threads + Wait + Sync>(
     rt: &R,
     alloc: Global,
+    words: &[&str],
     source: &mut MemorySource,
     sink: &mut MemorySink,
-) -> Result<u8, AllocError> {
-    let words = strings_of(alloc, &["pathmap"])?;
-    Ok(serve(rt, alloc, &words, source, sink, &OpenGate).status)
+) -> Result<(u8, u64, u64), AllocError> {
+    let words = strings_of(alloc, words)?;
+    let gate = CountingGate {
+        calls: AtomicU64::new(0),
+    };
+    let outcome = serve(rt, alloc, &words, source, sink, &gate);
+    let calls = gate.calls.load(Ordering::SeqCst);
+    Ok((outcome.status, source.calls, calls))
 }
 
 #[test]
@@ -127,83 +139,108 @@ fn each_input_has_its_status_and_output(rt: HostRuntime) -> Result<(), Fail> {
         ("client 2\nget 1\nget\n", 3, "fault line 3 word count\n"),
     ];
     for (input, status, output) in rows {
-        let bytes = Vec::from_slice(alloc, input.as_bytes())?;
-        let mut source = source_of(bytes, 1000, Vec::new(alloc));
+        let mut source = source_of(
+            Vec::from_slice(alloc, input.as_bytes())?,
+            1000,
+            Vec::new(alloc),
+        );
         let mut sink = MemorySink::with_room(alloc, 1000, 1000).expect(&rt, "ample memory");
-        let answer = status_of_run(&rt, alloc, &mut source, &mut sink)?;
-        assert_eq!(rt; answer, status, "{input}");
-        assert_eq!(rt; sink.held.as_slice(), output.as_bytes(), "{input}");
+        let ended = run(&rt, alloc, &["pathmap"], &mut source, &mut sink)?;
+        // One read gives all of it and the next one none, or else the first one none; then there is no other.
+        let reads = if input.is_empty() { 1 } else { 2 };
+        assert_eq!(rt;
+            (ended, sink.held.as_slice()),
+            ((status, reads, 0), output.as_bytes()),
+            "{input}"
+        );
     }
     Ok(())
 }
 
 #[test]
-fn other_words_are_a_usage_fault(rt: HostRuntime) -> Result<(), Fail> {
+fn faulty_words_reads_and_writes_end_the_run(rt: HostRuntime) -> Result<(), Fail> {
     let alloc = rt.alloc();
-    let rows: [(&[&str], usize, usize, &str); 3] = [
-        (&["pathmap", "--tree"], 1000, 1000, "fault usage\n"),
-        (&[], 1000, 1000, "fault usage\n"),
-        (&["pathmap", "--tree"], 3, 1, "fau"),
+    let one: &[&str] = &["pathmap"];
+    let two: &[&str] = &["pathmap", "--tree"];
+    // The words, the read that fails, the sink's room, the status, the reads that there were, and the output.
+    let rows: [(&[&str], u64, usize, u8, u64, &str); 7] = [
+        (two, 0, 1000, 2, 0, "fault usage\n"),
+        (&[], 0, 1000, 2, 0, "fault usage\n"),
+        (two, 0, 3, 2, 0, "fau"),
+        (one, 2, 1000, 4, 2, "fault read\n"),
+        (one, 6, 1000, 4, 6, "fault read\n"),
+        (one, 6, 0, 4, 6, ""),
+        (one, 0, 0, 5, 6, ""),
     ];
-    for (words, room, piece, output) in rows {
-        assert!(rt; piece >= 1);
-        let words = strings_of(alloc, words)?;
-        let mut source = source_of(Vec::from_slice(alloc, b"get 5\n")?, 1, Vec::new(alloc));
-        let mut sink = MemorySink::with_room(alloc, room, piece).expect(&rt, "ample memory");
-        let outcome = serve(&rt, alloc, &words, &mut source, &mut sink, &OpenGate);
-        assert_eq!(rt; outcome.status, 2);
-        assert_eq!(rt; sink.held.as_slice(), output.as_bytes());
-        assert_eq!(rt; source.calls, 0);
+    for (words, fails, room, status, reads, output) in rows {
+        let fails = Vec::from_slice(alloc, &[fails])?;
+        let mut source = source_of(Vec::from_slice(alloc, b"get 5")?, 1, fails);
+        let mut sink = MemorySink::with_room(alloc, room, 1).expect(&rt, "ample memory");
+        let ended = run(&rt, alloc, words, &mut source, &mut sink)?;
+        assert_eq!(rt;
+            (ended, sink.held.as_slice()),
+            ((status, reads, 0), output.as_bytes())
+        );
     }
     Ok(())
 }
 
-#[test]
-fn a_failed_read_and_a_full_sink_end_the_run(rt: HostRuntime) -> Result<(), Fail> {
-    let alloc = rt.alloc();
-    let fails = Vec::from_slice(alloc, &[2])?;
-    let mut source = source_of(Vec::from_slice(alloc, b"get 5")?, 1, fails);
-    let mut sink = MemorySink::with_room(alloc, 1000, 1000).expect(&rt, "ample memory");
-    assert_eq!(rt; status_of_run(&rt, alloc, &mut source, &mut sink)?, 4);
-    assert_eq!(rt; sink.held.as_slice(), b"fault read\n".as_slice());
-    let bytes = Vec::from_slice(alloc, b"put 5 50\nget 5\n")?;
-    let mut source = source_of(bytes, 1, Vec::new(alloc));
-    let mut full = MemorySink::with_room(alloc, 0, 1000).expect(&rt, "ample memory");
-    assert_eq!(rt; status_of_run(&rt, alloc, &mut source, &mut full)?, 5);
-    assert_eq!(rt; full.held.len(), 0);
-    Ok(())
+// So many lines that put, at keys that are all different, in no order.
+fn puts(alloc: Global, count: usize) -> Result<Vec<u8>, AllocError> {
+    let mut bytes = Vec::new(alloc);
+    let mut key: u16 = 0;
+    for _ in 0..count {
+        let line = format!(in alloc; "put {key} 1\n")?;
+        bytes.extend_from_slice(line.as_bytes())?;
+        key = key.wrapping_add(40_503);
+    }
+    Ok(bytes)
 }
 
+fn gets(alloc: Global, count: usize) -> Result<Vec<u8>, AllocError> {
+    let mut bytes = Vec::new(alloc);
+    for _ in 0..count {
+        bytes.extend_from_slice(b"get 1\n")?;
+    }
+    Ok(bytes)
+}
+
+fn spaces(alloc: Global, count: usize) -> Result<Vec<u8>, AllocError> {
+    vec![in alloc; b' '; count]
+}
+
+// The most bytes, commands and pairs find their memory; one byte more, and one command more, are refused.
 #[test]
-fn an_input_has_at_most_4_194_304_bytes(rt: HostRuntime) -> Result<(), Fail> {
+fn inputs_of_full_size_are_run(rt: HostRuntime) -> Result<(), Fail> {
     let alloc = rt.alloc();
-    let rows: [(usize, u8, &str); 2] = [
-        (4_194_304, 0, "left 0\nend\n"),
-        (4_194_305, 6, "fault input too large\n"),
+    let rows: [(Vec<u8>, u8, u64, &[u8]); 5] = [
+        (spaces(alloc, MOST_BYTES)?, 0, 65, b"left 0\nend\n"),
+        (
+            spaces(alloc, MOST_BYTES + 1)?,
+            6,
+            65,
+            b"fault input too large\n",
+        ),
+        (gets(alloc, 60_000)?, 0, 7, b"1 1.1 get 1 = none\n"),
+        (
+            gets(alloc, 60_001)?,
+            3,
+            7,
+            b"fault line 60001 too many lines\n",
+        ),
+        (puts(alloc, 60_000)?, 0, 12, b"1 1.1 put 0 1 = new\n"),
     ];
-    for (length, status, output) in rows {
-        let mut source = source_of(spaces(alloc, length)?, 1_000_000, Vec::new(alloc));
-        let mut sink = MemorySink::with_room(alloc, 1000, 1000).expect(&rt, "ample memory");
-        assert_eq!(rt; status_of_run(&rt, alloc, &mut source, &mut sink)?, status);
-        assert_eq!(rt; sink.held.as_slice(), output.as_bytes());
-        assert!(rt; source.at <= 4_194_305);
+    for (bytes, status, reads, front) in rows {
+        let mut source = source_of(bytes, 1_000_000, Vec::new(alloc));
+        let mut sink = MemorySink::with_room(alloc, 3_000_000, 1_000_000).expect(
+            &rt,
+            "ample memory",
+        );
+        let ended = run(&rt, alloc, &["pathmap"], &mut source, &mut sink)?;
+        assert_eq!(rt;
+            (ended, sink.held.starts_with(front)),
+            ((status, reads, 0), true)
+        );
     }
-    Ok(())
-}
-
-#[test]
-fn a_script_has_at_most_60_000_commands(rt: HostRuntime) -> Result<(), Fail> {
-    let alloc = rt.alloc();
-    let mut source = source_of(gets(alloc, 60_000)?, 1_000_000, Vec::new(alloc));
-    let mut sink = MemorySink::with_room(alloc, 2_000_000, 1_000_000).expect(&rt, "ample memory");
-    assert_eq!(rt; status_of_run(&rt, alloc, &mut source, &mut sink)?, 0);
-    assert!(rt; sink.held.as_slice().starts_with(b"1 1.1 get 1 = none\n"));
-    let mut source = source_of(gets(alloc, 60_001)?, 1_000_000, Vec::new(alloc));
-    let mut sink = MemorySink::with_room(alloc, 1000, 1000).expect(&rt, "ample memory");
-    assert_eq!(rt; status_of_run(&rt, alloc, &mut source, &mut sink)?, 3);
-    assert_eq!(rt;
-        sink.held.as_slice(),
-        b"fault line 60001 too many lines\n".as_slice()
-    );
     Ok(())
 }
