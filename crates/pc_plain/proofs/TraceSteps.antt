@@ -1,24 +1,15 @@
--- A trace one turn longer, and where it leads.
-use Rattle.std.proofs.Common.{◌≡◌, ℕ, ◌+◌, List, [], ◌∷◌, ◌++◌, length, refl, sym, ap, ◌∙◌, subst, length-append}
+-- Turns one after another: where they lead, and that a plan which can go on still can after them.
+use Rattle.std.proofs.Common.{◌≡◌, ℕ, ◌+◌, List, [], ◌∷◌, ◌++◌, Result, Ok, Err, IfOk, IfErr, refl, sym, ap, ◌∙◌, subst, length-append}
 use Rattle.pc_model.specs.declared.cell.Field.{Field}
 use Rattle.pc_model.specs.declared.cell.Field.TheVariants.{Version as VersionField}
 use Rattle.pc_model.specs.Cells.{Cells, IsEven}
 use Rattle.pc_plan.specs.declared.plan.Ask.{Ask}
 use Rattle.pc_plan.specs.declared.plan.Ask.TheVariants.{Visit, Read}
 use Rattle.pc_plan.specs.declared.plan.Told.{Told}
-use Rattle.pc_plan.specs.declared.plan.Told.TheVariants.{Begin, Version, Number}
+use Rattle.pc_plan.specs.declared.plan.Told.TheVariants.{Version, Number}
 use Rattle.pc_plan.specs.Traces.{after, Agrees, Tells}
-use Rattle.pc_plan.specs.Runs.{reached, AgreesWith}
-
-after_more : {P : Type 0} (moves : P → Told → P × Ask) (s : P × Ask) (ts : List Told) (t : Told)
-    → after moves s (ts ++ t ∷ []) ≡ moves (after moves s ts).0 t
-after_more moves s [] t = refl
-after_more moves s (u ∷ ts) t = after_more moves (moves s.0 u) ts t
-
-agrees_more : {P : Type 0} (moves : P → Told → P × Ask) (c : Cells) (s : P × Ask) (ts : List Told) (t : Told)
-    → Agrees moves c s ts → Tells c (after moves s ts).1 t → Agrees moves c s (ts ++ t ∷ [])
-agrees_more moves c s [] t agrees tells = (tells, tt)
-agrees_more moves c s (u ∷ ts) t agrees tells = (agrees.0, agrees_more moves c (moves s.0 u) ts t agrees.1 tells)
+use Rattle.pc_plain.specs.PlainCells.{PlainWords, cells_of}
+use Rattle.pc_plain.specs.PlainTurns.{CanBeTold, CanGoOn, GoesOn, ComesFrom}
 
 pub told_version : (c : Cells) (n v : ℕ) → v ≡ c n VersionField → IsEven (c n VersionField)
     → Tells c (Visit n) (Version v)
@@ -27,32 +18,78 @@ told_version c n v e even = (sym e, rw e even)
 pub told_number : (c : Cells) (n : ℕ) (f : Field) (x : ℕ) → x ≡ c n f → Tells c (Read n f) (Number x)
 told_number c n f x e = sym e
 
--- a trace that agrees with the cells leads to where the plan is about to be told something
-pub record HasCome {P C : Type 0} (start : C → P) (moves : P → Told → P × Ask) (c : Cells) (call : C) (plan : P)
-    (told : Told) (turn : ℕ) : Type 0 where
-  pub trace : List Told
-  pub agrees : AgreesWith start moves c call trace
-  pub leads : moves plan told ≡ reached start moves call trace
-  pub long : length trace ≡ turn
+module _ {P : Type 0} (moves : P → Told → P × Ask) where
+  after_append : (s : P × Ask) (ts us : List Told) → after moves s (ts ++ us) ≡ after moves (after moves s ts) us
+  after_append s [] us = refl
+  after_append s (t ∷ ts) us = after_append (moves s.0 t) ts us
 
-module _ {P C : Type 0} (start : C → P) (moves : P → Told → P × Ask) (c : Cells) (call : C) where
-  pub come_at_first : (plan : P) → plan ≡ start call → HasCome start moves c call plan Begin 0
-  come_at_first plan e =
-      record { trace = []; agrees = tt; leads = ap (λ (p : P). moves p Begin) e; long = refl }
+  agrees_append : (c : Cells) (s : P × Ask) (ts us : List Told) → Agrees moves c s ts
+      → Agrees moves c (after moves s ts) us → Agrees moves c s (ts ++ us)
+  agrees_append c s [] us agrees further = further
+  agrees_append c s (t ∷ ts) us agrees further =
+      (agrees.0, agrees_append c (moves s.0 t) ts us agrees.1 further)
 
-  module _ (plan : P) (told : Told) (turn : ℕ) (come : HasCome start moves c call plan told turn) (plan' : P)
-      (ask : Ask) (next : ◌≡◌ {A = P × Ask} (plan', ask) (moves plan told)) where
-    pub ask_reached : (reached start moves call come.trace).1 ≡ ask
-    ask_reached = sym (ap (λ (s : P × Ask). s.1) (next ∙ come.leads))
+  -- no turn yet
+  pub goes_at_first : (c : Cells) (plan : P) (told : Told) → GoesOn moves c (moves plan told) 0 plan told
+  goes_at_first c plan told = record { trace = []; agrees = tt; leads = refl; long = refl }
 
-    pub come_further : (t : Told) → Tells c ask t → HasCome start moves c call plan' t (turn + 1)
-    come_further t tells =
-        let s : P × Ask = moves (start call) Begin in
-        let state : (reached start moves call come.trace).0 ≡ plan'
-        = sym (ap (λ (s : P × Ask). s.0) (next ∙ come.leads)) in
-        record {
-          trace = come.trace ++ t ∷ [];
-          agrees = agrees_more moves c s come.trace t come.agrees (subst (λ (a : Ask). Tells c a t) (sym ask_reached) tells);
-          leads = ap (λ (p : P). moves p t) (sym state) ∙ sym (after_more moves s come.trace t);
-          long = length-append come.trace (t ∷ []) ∙ ap (λ (n : ℕ). n + 1) come.long;
-        }
+  module _ (c : Cells) (s : P × Ask) (m : ℕ) (plan : P) (told : Told) (goes : GoesOn moves c s m plan told) where
+    further_agrees : (us : List Told) → Agrees moves c (moves plan told) us → Agrees moves c s (goes.trace ++ us)
+    further_agrees us agrees = agrees_append c s goes.trace us goes.agrees
+        (subst (λ (x : P × Ask). Agrees moves c x us) goes.leads agrees)
+
+    further_leads : (us : List Told) → after moves (moves plan told) us ≡ after moves s (goes.trace ++ us)
+    further_leads us = ap (λ (x : P × Ask). after moves x us) goes.leads ∙ sym (after_append s goes.trace us)
+
+    -- some turns, and then more
+    pub goes_further : (n : ℕ) (plan' : P) (told' : Told) → GoesOn moves c (moves plan told) n plan' told'
+        → GoesOn moves c s (m + n) plan' told'
+    goes_further n plan' told' next = record {
+      trace = goes.trace ++ next.trace;
+      agrees = further_agrees next.trace next.agrees;
+      leads = next.leads ∙ further_leads next.trace;
+      long = length-append goes.trace next.trace ∙ (λ i. goes.long i + next.long i);
+    }
+
+    -- some turns, and then the end
+    pub comes_further : (ask : Ask) → ComesFrom moves c (moves plan told) ask → ComesFrom moves c s ask
+    comes_further ask end =
+        (goes.trace ++ end.0, further_agrees end.0 end.1, ap (λ (x : P × Ask). x.1) (sym (further_leads end.0)) ∙ end.2)
+
+    -- the same of what a turn results in
+    pub goes_on_by : {E : Type 0} (n : ℕ) (plan' : P) (r : Result Told E)
+        → IfOk r (λ next. GoesOn moves c (moves plan told) n plan' next) → IfOk r (λ next. GoesOn moves c s (m + n) plan' next)
+    goes_on_by n plan' (Ok next) h = goes_further n plan' next h
+    goes_on_by n plan' (Err end) h = tt
+
+    pub ends_by : {E : Type 0} (last : E → Ask) (r : Result Told E) → IfErr r (λ end. ComesFrom moves c (moves plan told) (last end))
+        → IfErr r (λ end. ComesFrom moves c s (last end))
+    ends_by last (Ok next) h = tt
+    ends_by last (Err end) h = comes_further (last end) h
+
+  -- a plan that can go on still can after some turns
+  pub can_further : (w : PlainWords) (s : P × Ask) (m : ℕ) (plan : P) (told : Told)
+      → GoesOn moves (cells_of w) s m plan told → CanGoOn moves w s → CanGoOn moves w (moves plan told)
+  can_further w s m plan told goes can us agrees =
+      subst (λ (x : P × Ask). CanBeTold w x.1) (sym (further_leads (cells_of w) s m plan told goes us))
+      (can (goes.trace ++ us) (further_agrees (cells_of w) s m plan told goes us agrees))
+
+  -- one turn
+  pub goes_one : (c : Cells) (s : P × Ask) (plan : P) (ask : Ask) (t : Told) → ◌≡◌ {A = P × Ask} (plan, ask) s
+      → Tells c ask t → GoesOn moves c s 1 plan t
+  goes_one c s plan ask t is tells = record {
+    trace = t ∷ [];
+    agrees = (subst (λ (x : P × Ask). Tells c x.1 t) is tells, tt);
+    leads = ap (λ (x : P × Ask). moves x.0 t) is;
+    long = refl;
+  }
+
+  -- the end at once
+  pub comes_at_once : (c : Cells) (s : P × Ask) (plan : P) (ask : Ask) → ◌≡◌ {A = P × Ask} (plan, ask) s
+      → ComesFrom moves c s ask
+  comes_at_once c s plan ask is = ([], tt, ap (λ (x : P × Ask). x.1) (sym is))
+
+  -- what the plan asks at once can be told
+  pub can_be_told : (w : PlainWords) (s : P × Ask) (plan : P) (ask : Ask) → ◌≡◌ {A = P × Ask} (plan, ask) s
+      → CanGoOn moves w s → CanBeTold w ask
+  can_be_told w s plan ask is can = subst (λ (x : P × Ask). CanBeTold w x.1) (sym is) (can [] tt)

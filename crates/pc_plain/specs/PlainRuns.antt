@@ -1,5 +1,5 @@
 -- What a run of a plan on plain cells does to them, and what it answers.
-use Rattle.std.specs.Prelude.{◌≡◌, ℕ, List, length, Option, Some, None, IsSome}
+use Rattle.std.specs.Prelude.{◌≡◌, ℕ, List, length, IsSome}
 use Rattle.pc_model.specs.declared.call.Reply.{Reply}
 use Rattle.pc_model.specs.declared.cell.Field.{Field}
 use Rattle.pc_model.specs.declared.cell.Field.TheVariants.{Version as VersionField}
@@ -50,11 +50,6 @@ WantsSlot (Visit n) = ⊥
 WantsSlot (Read n f) = ⊥
 WantsSlot (Change p) = IsSome p.fresh
 WantsSlot (Answer r) = ⊥
-
--- what a plan asks at its end, where it gave this reply or else wrote this exchange
-abbrev pub last_ask : Option Reply → Planned → Ask
-last_ask (Some r) p = Answer r
-last_ask None p = Change p
 
 module _ {P C : Type 0} (start : C → P) (moves : P → Told → P × Ask) where
   -- on these cells the plan of a call comes to ask this

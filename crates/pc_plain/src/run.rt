@@ -1,17 +1,66 @@
 //! Running a plan on plain cells: the plan is told what stands in them until it answers or asks for
 //! an exchange, which is then made.
 ghost use Rattle.std.specs.Prelude.{◌≡◌, ◌≤◌, IfOk, IfErr, OnErr, OnOk};
+ghost use Rattle.pc_plan.specs.declared.plan.Told.TheVariants.{Begin};
 ghost use Rattle.pc_plain.specs.PlainCells.{cells_of, AreBelowLimits};
-ghost use Rattle.pc_plain.specs.PlainRuns.{HoldsPairs, last_ask, ComesTo, IsRunOf, RunsRight, ComesToWantSlot, AllInUse, HasPairPerSlot};
+ghost use Rattle.pc_plain.specs.PlainRuns.{HoldsPairs, ComesTo, IsRunOf, RunsRight, ComesToWantSlot, AllInUse, HasPairPerSlot};
+ghost use Rattle.pc_plain.specs.PlainTurns.{last_ask, CanGoOn, GoesOn, ComesFrom};
 
 use crate::node_store::{NoPlainSlot, NodeStore};
 use crate::plain::PlainCells;
 use pc_model::{Field, Reply};
 use pc_plan::{Change, Plan, Told, Turn};
 
-/// Tells the plan of a call what stands in the nodes, to its end: its reply, or none where it wrote an
-/// exchange into `change`.
-fn end_of<P: Plan>(nodes: &NodeStore, call: P::Call, change: &mut Change) -> Option<Reply>
+/// How a plan ends.
+#[derive(Clone, Copy, Debug)]
+enum End {
+    /// It wrote an exchange.
+    Exchange,
+    /// It answered.
+    Answer(Reply),
+}
+
+/// Tells the plan something, and finds what it is to be told next. The two links have arms of their own:
+/// the machine then goes on along the one that it expects, and doesn't wait for the key first.
+#[inline(always)]
+fn turn<P: Plan>(plan: &mut P, nodes: &NodeStore, told: Told, change: &mut Change) -> Result<Told, End>
+    requires { CanGoOn P.moves nodes.now (P.moves plan.old told) }
+    ensures goes_on { IfOk result (GoesOn P.moves (cells_of nodes.now) (P.moves plan.old told) 1 plan.new) }
+    ensures ends { IfErr result (λ end. ComesFrom P.moves (cells_of nodes.now) (P.moves plan.old told) (last_ask end change.new)) }
+{
+    match plan.step(told, change) {
+        Turn::Visit(node) => Ok(Told::Version(nodes.word(node, Field::Version))),
+        Turn::Read(node, Field::Left) => Ok(Told::Number(nodes.word(node, Field::Left))),
+        Turn::Read(node, Field::Right) => Ok(Told::Number(nodes.word(node, Field::Right))),
+        Turn::Read(node, field) => Ok(Told::Number(nodes.word(node, field))),
+        Turn::Change => Err(End::Exchange),
+        Turn::Answer(reply) => Err(End::Answer(reply)),
+    }
+}
+
+#[inline(always)]
+fn two_turns<P: Plan>(plan: &mut P, nodes: &NodeStore, told: Told, change: &mut Change) -> Result<Told, End>
+    requires { CanGoOn P.moves nodes.now (P.moves plan.old told) }
+    ensures goes_on { IfOk result (GoesOn P.moves (cells_of nodes.now) (P.moves plan.old told) 2 plan.new) }
+    ensures ends { IfErr result (λ end. ComesFrom P.moves (cells_of nodes.now) (P.moves plan.old told) (last_ask end change.new)) }
+{
+    let second = turn(plan, nodes, told, change)?;
+    turn(plan, nodes, second, change)
+}
+
+/// As many turns as a walk mostly has at a node: its version, its key and a link.
+#[inline(always)]
+fn three_turns<P: Plan>(plan: &mut P, nodes: &NodeStore, told: Told, change: &mut Change) -> Result<Told, End>
+    requires { CanGoOn P.moves nodes.now (P.moves plan.old told) }
+    ensures goes_on { IfOk result (GoesOn P.moves (cells_of nodes.now) (P.moves plan.old told) 3 plan.new) }
+    ensures ends { IfErr result (λ end. ComesFrom P.moves (cells_of nodes.now) (P.moves plan.old told) (last_ask end change.new)) }
+{
+    let second = turn(plan, nodes, told, change)?;
+    two_turns(plan, nodes, second, change)
+}
+
+/// Tells the plan of a call what stands in the nodes, to its end. An exchange stands in `change` then.
+fn end_of<P: Plan>(nodes: &NodeStore, call: P::Call, change: &mut Change) -> End
     requires call { P.can_call call }
     requires sound { HoldsPairs P.form nodes.now }
     ensures comes { ComesTo P.start P.moves nodes.now call (last_ask result change.new) }
@@ -20,12 +69,10 @@ fn end_of<P: Plan>(nodes: &NodeStore, call: P::Call, change: &mut Change) -> Opt
 {
     let mut plan = P::begin(call);
     let mut told = Told::Begin;
-    for _turn in 0..9 * (nodes.slots() + 2) {
-        match plan.step(told, change) {
-            Turn::Visit(node) => told = Told::Version(nodes.word(node, Field::Version)),
-            Turn::Read(node, field) => told = Told::Number(nodes.word(node, field)),
-            Turn::Change => return None,
-            Turn::Answer(reply) => return Some(reply),
+    for _round in 0..3 * (nodes.slots() + 2) {
+        match three_turns(&mut plan, nodes, told, change) {
+            Ok(next) => told = next,
+            Err(end) => return end,
         }
     }
     unreachable!()
@@ -49,7 +96,7 @@ pub fn run_plan<P: Plan>(cells: &mut PlainCells, call: P::Call) -> Result<Reply,
     ensures stays { OnErr result (cells.new ≡ cells.old) }
 {
     match end_of::<P>(&cells.nodes, call, &mut cells.change) {
-        Some(reply) => Ok(reply),
-        None => cells.nodes.make(&cells.change),
+        End::Answer(reply) => Ok(reply),
+        End::Exchange => cells.nodes.make(&cells.change),
     }
 }

@@ -6,9 +6,9 @@ use Rattle.pc_plain.specs.PlainWriting.{IsWritten}
 use Rattle.pc_plain.proofs.RunRight.{from_reply, comes_to_make, change_run, change_right, from_ok, holds_after}
 use Rattle.pc_plain.proofs.run.run_plan.Given.{Over}
 use Rattle.pc_plain.proofs.run.run_plan.Goals as goal
-use Rattle.pc_plain.proofs.run.run_plan.Goals.{In-None, After-make}
+use Rattle.pc_plain.proofs.run.run_plan.Goals.{In-Exchange, After-make}
 
-holds : (g : Over) (c : In-None g) → HoldsPairs g.P.Plan.form c.cells.inside.nodes
+holds : (g : Over) (c : In-Exchange g) → HoldsPairs g.P.Plan.form c.cells.inside.nodes
 holds g c = subst (HoldsPairs g.P.Plan.form) (sym c.cells.view_is) c.requires.sound
 
 -- the exchange was written in the nodes
@@ -26,30 +26,30 @@ pub make-requires : goal.make-requires
 make-requires g c =
     comes_to_make g.P.Plan.start g.P.Plan.moves g.P.Plan.can_call g.P.Plan.terms g.P.Plan.form g.met.P.Plan.laws
     c.cells.inside.nodes c.end_of.ensures.few c.end_of.ensures.fit c.args.call c.requires.call
-    c.end_of.new.change c.in-None.ensures.comes (holds g (goal.at.make-requires g c).In-None)
+    c.end_of.new.change c.in-Exchange.ensures.comes (holds g (goal.at.make-requires g c).In-Exchange)
 
-pub returns-in-None-clause-run : goal.returns-in-None-clause-run
-returns-in-None-clause-run g c =
-    let at : After-make g = (goal.at.returns-in-None-clause-run g c).After-make in
+pub returns-in-Exchange-clause-run : goal.returns-in-Exchange-clause-run
+returns-in-Exchange-clause-run g c =
+    let at : After-make g = (goal.at.returns-in-Exchange-clause-run g c).After-make in
     by_writing g at (λ w. IsRunOf g.P.Plan.start g.P.Plan.moves g.P.Plan.form c.args.call w c.make.new.self)
     (λ written. change_run g.P.Plan.start g.P.Plan.moves g.P.Plan.can_call g.P.Plan.terms g.P.Plan.form g.met.P.Plan.laws
     c.cells.inside.nodes c.end_of.ensures.few c.end_of.ensures.fit c.args.call c.requires.call
-    c.end_of.new.change c.in-None.ensures.comes c.make.new.self c.make.ensures.size written
-    (holds g (goal.at.returns-in-None-clause-run g c).In-None))
+    c.end_of.new.change c.in-Exchange.ensures.comes c.make.new.self c.make.ensures.size written
+    (holds g (goal.at.returns-in-Exchange-clause-run g c).In-Exchange))
 
 right : (g : Over) (c : After-make g) → IfOk c.make.result (RunsRight g.P.Plan.form (g.P.Plan.terms c.args.call) c.args.cells.now c.make.new.self)
 right g c =
     by_writing g c (λ w. RunsRight g.P.Plan.form (g.P.Plan.terms c.args.call) w c.make.new.self)
     (λ written. change_right g.P.Plan.start g.P.Plan.moves g.P.Plan.can_call g.P.Plan.terms g.P.Plan.form g.met.P.Plan.laws
     c.cells.inside.nodes c.end_of.ensures.few c.end_of.ensures.fit c.args.call c.requires.call
-    c.end_of.new.change c.in-None.ensures.comes c.make.new.self c.make.ensures.size written)
+    c.end_of.new.change c.in-Exchange.ensures.comes c.make.new.self c.make.ensures.size written)
 
-pub returns-in-None-clause-right : goal.returns-in-None-clause-right
-returns-in-None-clause-right g c = right g (goal.at.returns-in-None-clause-right g c).After-make
+pub returns-in-Exchange-clause-right : goal.returns-in-Exchange-clause-right
+returns-in-Exchange-clause-right g c = right g (goal.at.returns-in-Exchange-clause-right g c).After-make
 
-pub returns-in-None-clause-sound : goal.returns-in-None-clause-sound
-returns-in-None-clause-sound g c =
-    let at : After-make g = (goal.at.returns-in-None-clause-sound g c).After-make in
+pub returns-in-Exchange-clause-sound : goal.returns-in-Exchange-clause-sound
+returns-in-Exchange-clause-sound g c =
+    let at : After-make g = (goal.at.returns-in-Exchange-clause-sound g c).After-make in
     from_ok c.make.result (RunsRight g.P.Plan.form (g.P.Plan.terms c.args.call) c.args.cells.now c.make.new.self)
     (HoldsPairs g.P.Plan.form c.make.new.self) (right g at)
     (λ reply is. holds_after g.P.Plan.form (g.P.Plan.terms c.args.call) c.args.cells.now c.make.new.self reply is c.requires.sound)
