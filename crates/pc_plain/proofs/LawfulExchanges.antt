@@ -30,9 +30,11 @@ told_version : (past : List Event) (mark : Option ℕ) (n : ℕ) (to : To) (adds
 told_version past mark n to [] told added = absurd added
 told_version past mark n to (a ∷ adds) told added = ⊎_elim
     (λ here. ⊎_elim
-    (λ is. (a.old,
-    subst (λ (m : ℕ). version_seen m past ≡ Some a.old) here.0 is.1,
-    sym here.2 ∙ is.2 ∙ ap (λ (m : ℕ). Number (a.old + rise_of mark m)) here.0))
+    (λ is. (
+      a.old,
+      subst (λ (m : ℕ). version_seen m past ≡ Some a.old) here.0 is.1,
+      sym here.2 ∙ is.2 ∙ ap (λ (m : ℕ). Number (a.old + rise_of mark m)) here.0,
+    ))
     (λ is. absurd (is.0 here.1))
     told.0)
     (λ later. told_version past mark n to adds told.1 later)

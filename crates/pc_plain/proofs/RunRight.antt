@@ -169,6 +169,7 @@ module _ {P C : Type 0} (start : C → P) (moves : P → Told → P × Ask) (can
           let after : Cells = applied (exchange_in w past p written.slot) (cells_of w) in
           let left : form.sound w.slots (cells_of new) next
           = laws.form_laws.parity w.slots after (cells_of new) next (kept_but_versions w.slots after (cells_of new) written.cells)
-          (right_change ps sound written.slot written.takes).leaves in
-          ((comes_right (Change p) come ps sound).0,
-          subst (λ (slots : ℕ). form.sound slots (cells_of new) next) (sym size) left)
+          (right_change ps sound written.slot written.takes).leaves in (
+            (comes_right (Change p) come ps sound).0,
+            subst (λ (slots : ℕ). form.sound slots (cells_of new) next) (sym size) left,
+          )

@@ -1,7 +1,7 @@
 -- The turns of a plan on plain cells: what can be answered, and where some turns lead.
 use Rattle.std.specs.Prelude.{◌≡◌, ℕ, List, length}
 use Rattle.pc_model.specs.declared.cell.Field.TheVariants.{Version as VersionField}
-use Rattle.pc_model.specs.Cells.{Cells, IsEven, IsNode}
+use Rattle.pc_model.specs.Cells.{IsEven, IsNode}
 use Rattle.pc_plan.specs.declared.plan.Ask.{Ask}
 use Rattle.pc_plan.specs.declared.plan.Ask.TheVariants.{Visit, Read, Change, Answer}
 use Rattle.pc_plan.specs.declared.plan.Told.{Told}
@@ -29,12 +29,12 @@ module _ {P : Type 0} (moves : P → Told → P × Ask) where
   CanGoOn w s = (ts : List Told) → Agrees moves (cells_of w) s ts → CanBeTold w (after moves s ts).1
 
   -- after so many turns that agree with the cells the plan is about to be told this
-  pub record GoesOn (c : Cells) (s : P × Ask) (turns : ℕ) (plan : P) (told : Told) : Type 0 where
+  pub record GoesOn (w : PlainWords) (s : P × Ask) (turns : ℕ) (plan : P) (told : Told) : Type 0 where
     pub trace : List Told
-    pub agrees : Agrees moves c s trace
+    pub agrees : Agrees moves (cells_of w) s trace
     pub leads : moves plan told ≡ after moves s trace
     pub long : length trace ≡ turns
 
   -- after some turns that agree with the cells the plan asks this
-  abbrev pub ComesFrom : Cells → P × Ask → Ask → Type 0
-  ComesFrom c s ask = (ts : List Told) × Agrees moves c s ts × ((after moves s ts).1 ≡ ask)
+  abbrev pub ComesFrom : PlainWords → P × Ask → Ask → Type 0
+  ComesFrom w s ask = (ts : List Told) × Agrees moves (cells_of w) s ts × ((after moves s ts).1 ≡ ask)

@@ -7,7 +7,5 @@ use pc_plan::Plan;
 /// A run of a plan that asks for no exchange, whatever it is told, leaves everything as it was, and is
 /// never refused.
 pub fn quiet_plans_change_nothing<P: Plan>()
-    ensures {
-      AsksForNoExchange P.start P.moves P.can_call → ChangeNothing P.start P.moves P.can_call P.form
-    }
+    ensures { AsksForNoExchange P.start P.moves P.can_call → ChangeNothing P.start P.moves P.can_call P.form }
 {}

@@ -1,9 +1,9 @@
 //! Running a plan on plain cells: the plan is told what stands in them until it answers or asks for
 //! an exchange, which is then made.
 ghost use Rattle.std.specs.Prelude.{◌≡◌, ◌≤◌, IfOk, IfErr, OnErr, OnOk};
-ghost use Rattle.pc_plan.specs.declared.plan.Told.TheVariants.{Begin};
 ghost use Rattle.pc_plain.specs.PlainCells.{cells_of, AreBelowLimits};
-ghost use Rattle.pc_plain.specs.PlainRuns.{HoldsPairs, ComesTo, IsRunOf, RunsRight, ComesToWantSlot, AllInUse, HasPairPerSlot};
+ghost use Rattle.pc_plain.specs.PlainRuns.{HoldsPairs, ComesTo, IsRunOf, RunsRight};
+ghost use Rattle.pc_plain.specs.PlainRuns.{ComesToWantSlot, AllInUse, HasPairPerSlot};
 ghost use Rattle.pc_plain.specs.PlainTurns.{last_ask, CanGoOn, GoesOn, ComesFrom};
 
 use crate::node_store::{NoPlainSlot, NodeStore};
@@ -23,10 +23,16 @@ enum End {
 /// Tells the plan something, and finds what it is to be told next. The two links have arms of their own:
 /// the machine then goes on along the one that it expects, and doesn't wait for the key first.
 #[inline(always)]
-fn turn<P: Plan>(plan: &mut P, nodes: &NodeStore, told: Told, change: &mut Change) -> Result<Told, End>
+fn take_turn<P: Plan>(
+    plan: &mut P,
+    nodes: &NodeStore,
+    told: Told,
+    change: &mut Change,
+) -> Result<Told, End>
     requires { CanGoOn P.moves nodes.now (P.moves plan.old told) }
-    ensures goes_on { IfOk result (GoesOn P.moves (cells_of nodes.now) (P.moves plan.old told) 1 plan.new) }
-    ensures ends { IfErr result (λ end. ComesFrom P.moves (cells_of nodes.now) (P.moves plan.old told) (last_ask end change.new)) }
+    ensures goes_on { IfOk result (GoesOn P.moves nodes.now (P.moves plan.old told) 1 plan.new) }
+    ensures ends { IfErr result (λ end.
+        ComesFrom P.moves nodes.now (P.moves plan.old told) (last_ask end change.new)) }
 {
     match plan.step(told, change) {
         Turn::Visit(node) => Ok(Told::Version(nodes.word(node, Field::Version))),
@@ -39,24 +45,36 @@ fn turn<P: Plan>(plan: &mut P, nodes: &NodeStore, told: Told, change: &mut Chang
 }
 
 #[inline(always)]
-fn two_turns<P: Plan>(plan: &mut P, nodes: &NodeStore, told: Told, change: &mut Change) -> Result<Told, End>
+fn take_two_turns<P: Plan>(
+    plan: &mut P,
+    nodes: &NodeStore,
+    told: Told,
+    change: &mut Change,
+) -> Result<Told, End>
     requires { CanGoOn P.moves nodes.now (P.moves plan.old told) }
-    ensures goes_on { IfOk result (GoesOn P.moves (cells_of nodes.now) (P.moves plan.old told) 2 plan.new) }
-    ensures ends { IfErr result (λ end. ComesFrom P.moves (cells_of nodes.now) (P.moves plan.old told) (last_ask end change.new)) }
+    ensures goes_on { IfOk result (GoesOn P.moves nodes.now (P.moves plan.old told) 2 plan.new) }
+    ensures ends { IfErr result (λ end.
+        ComesFrom P.moves nodes.now (P.moves plan.old told) (last_ask end change.new)) }
 {
-    let second = turn(plan, nodes, told, change)?;
-    turn(plan, nodes, second, change)
+    let second = take_turn(plan, nodes, told, change)?;
+    take_turn(plan, nodes, second, change)
 }
 
 /// As many turns as a walk mostly has at a node: its version, its key and a link.
 #[inline(always)]
-fn three_turns<P: Plan>(plan: &mut P, nodes: &NodeStore, told: Told, change: &mut Change) -> Result<Told, End>
+fn take_three_turns<P: Plan>(
+    plan: &mut P,
+    nodes: &NodeStore,
+    told: Told,
+    change: &mut Change,
+) -> Result<Told, End>
     requires { CanGoOn P.moves nodes.now (P.moves plan.old told) }
-    ensures goes_on { IfOk result (GoesOn P.moves (cells_of nodes.now) (P.moves plan.old told) 3 plan.new) }
-    ensures ends { IfErr result (λ end. ComesFrom P.moves (cells_of nodes.now) (P.moves plan.old told) (last_ask end change.new)) }
+    ensures goes_on { IfOk result (GoesOn P.moves nodes.now (P.moves plan.old told) 3 plan.new) }
+    ensures ends { IfErr result (λ end.
+        ComesFrom P.moves nodes.now (P.moves plan.old told) (last_ask end change.new)) }
 {
-    let second = turn(plan, nodes, told, change)?;
-    two_turns(plan, nodes, second, change)
+    let second = take_turn(plan, nodes, told, change)?;
+    take_two_turns(plan, nodes, second, change)
 }
 
 /// Tells the plan of a call what stands in the nodes, to its end. An exchange stands in `change` then.
@@ -70,7 +88,7 @@ fn end_of<P: Plan>(nodes: &NodeStore, call: P::Call, change: &mut Change) -> End
     let mut plan = P::begin(call);
     let mut told = Told::Begin;
     for _round in 0..3 * (nodes.slots() + 2) {
-        match three_turns(&mut plan, nodes, told, change) {
+        match take_three_turns(&mut plan, nodes, told, change) {
             Ok(next) => told = next,
             Err(end) => return end,
         }

@@ -11,9 +11,9 @@ use Rattle.pc_plan.specs.Traces.{Tells}
 use Rattle.pc_plain.specs.PlainCells.{cells_of}
 use Rattle.pc_plain.specs.PlainTurns.{CanBeTold, GoesOn}
 use Rattle.pc_plain.proofs.TraceSteps.{told_version, told_number, goes_one, can_be_told}
-use Rattle.pc_plain.proofs.run.turn.Given.{Over}
-use Rattle.pc_plain.proofs.run.turn.Goals as goal
-use Rattle.pc_plain.proofs.run.turn.Goals.{After-step}
+use Rattle.pc_plain.proofs.run.take_turn.Given.{Over}
+use Rattle.pc_plain.proofs.run.take_turn.Goals as goal
+use Rattle.pc_plain.proofs.run.take_turn.Goals.{After-step}
 
 -- the state of the plan and what it asks by a turn
 abbrev state_by : (g : Over) → After-step g → Turn → g.row.P.Denot × Ask
@@ -31,9 +31,9 @@ can g c turn is =
 
 goes : (g : Over) (c : After-step g) (turn : Turn) (t : Told) → c.step.result ≡ turn
     → Tells (cells_of c.args.nodes.now) (state_by g c turn).1 t
-    → GoesOn g.P.Plan.moves (cells_of c.args.nodes.now) (g.P.Plan.moves c.args.plan.now c.args.told) 1 c.step.new.self t
+    → GoesOn g.P.Plan.moves c.args.nodes.now (g.P.Plan.moves c.args.plan.now c.args.told) 1 c.step.new.self t
 goes g c turn t is tells =
-    goes_one g.P.Plan.moves (cells_of c.args.nodes.now) (g.P.Plan.moves c.args.plan.now c.args.told) c.step.new.self
+    goes_one g.P.Plan.moves c.args.nodes.now (g.P.Plan.moves c.args.plan.now c.args.told) c.step.new.self
     (state_by g c turn).1 t (is_by g c turn is) tells
 
 pub word-requires : goal.word-requires
