@@ -88,7 +88,8 @@ module _ {P : Type 0} (moves : P → Told → P × Ask) (c : Cells) where
       → AreNodes slots (learned_along moves past s ts)
   visits_nodes slots [] past s agrees asks h = h
   visits_nodes slots (t ∷ ts) past s agrees asks h =
-      visits_nodes slots ts (learned s.1 t past) (moves s.0 t) agrees.1 (λ us further. asks (t ∷ us) (agrees.0, further))
+      visits_nodes slots ts (learned s.1 t past) (moves s.0 t) agrees.1
+      (λ us further. asks (t ∷ us) (agrees.0, further))
       (one_node_more slots s.1 t past (asks [] tt) h)
 
 -- what is known of a node that was visited at a version

@@ -16,19 +16,34 @@ use Rattle.pc_plain.proofs.KeptCells.{kept_node, kept_same}
 pub last_counted : (free rest : List ℕ) (slot : ℕ) → free ≡ rest ++ slot ∷ [] → 0 < count slot free
 last_counted free rest slot e =
     let a : count slot free ≡ count slot (rest ++ slot ∷ []) = ap (count slot) e in
-    let b : count slot (rest ++ slot ∷ []) ≡ count slot rest + count slot (slot ∷ []) = count-append slot rest (slot ∷ []) in
+    let b : count slot (rest ++ slot ∷ []) ≡ count slot rest + count slot (slot ∷ [])
+    = count-append slot rest (slot ∷ []) in
     let d : count slot (slot ∷ []) ≡ 1 = count-here slot [] in
     omega arith
 
 -- a node written at the stack's last slot takes that slot
-pub takes_slot : (wanted : Option Fresh) (fresh : Fresh) (old_words new_words old_free new_free : List ℕ) (slot version : ℕ) → wanted ≡ Some fresh
-    → old_free ≡ new_free ++ slot ∷ [] → version ≡ cells_in old_words slot Version → AreBelowLimits (cells_in old_words)
-    → cells_in new_words ≡ with_fresh (Some (record { node = slot; fields = λ f. kept f (fresh_fields version fresh f) })) (cells_in old_words)
-    → length new_words ≡ length old_words → slot < 4294967296 → fresh.parent < 4294967296 → TakesSlot wanted old_words new_words old_free new_free slot
+pub takes_slot : (wanted : Option Fresh) (fresh : Fresh) (old_words new_words old_free new_free : List ℕ)
+    (slot version : ℕ) → wanted ≡ Some fresh
+    → old_free ≡ new_free ++ slot ∷ [] → version ≡ cells_in old_words slot Version
+    → AreBelowLimits (cells_in old_words)
+    → cells_in new_words ≡ with_fresh
+    (Some (record { node = slot; fields = λ f. kept f (fresh_fields version fresh f) })) (cells_in old_words)
+    → length new_words ≡ length old_words → slot < 4294967296 → fresh.parent < 4294967296
+    → TakesSlot wanted old_words new_words old_free new_free slot
 takes_slot wanted fresh old_words new_words old_free new_free slot version e taken v below cells long small parent =
     let c : Cells = cells_in old_words in
     let here : kept_cells (with_fresh (fresh_at slot version (Some fresh)) c) ≡ cells_in new_words
-    = kept_node slot (fresh_fields version fresh) c ∙ ap (λ (d : Cells). with_fresh (Some (record { node = slot; fields = λ f. kept f (fresh_fields version fresh f) })) d) (kept_same c below) ∙ sym cells in
+    = kept_node slot (fresh_fields version fresh) c
+    ∙ ap (λ (d : Cells). with_fresh
+    (Some (record { node = slot; fields = λ f. kept f (fresh_fields version fresh f) })) d) (kept_same c below)
+    ∙ sym cells in
     let at : TakesSlot (Some fresh) old_words new_words old_free new_free slot
-    = record { taken = taken; cells = sym (subst (λ (x : ℕ). kept_cells (with_fresh (fresh_at slot x (Some fresh)) c) ≡ cells_in new_words) v here); long = long; small = small; parent = parent } in
+    = record {
+      taken = taken;
+      cells =
+          sym (subst (λ (x : ℕ). kept_cells (with_fresh (fresh_at slot x (Some fresh)) c) ≡ cells_in new_words) v here);
+      long = long;
+      small = small;
+      parent = parent;
+    } in
     subst (λ (o : Option Fresh). TakesSlot o old_words new_words old_free new_free slot) (sym e) at

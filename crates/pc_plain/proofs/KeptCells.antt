@@ -21,7 +21,9 @@ kept_small x = cond_both (nat_lt x 1152921504606846970) x (x % 2) (λ y. y < 115
     (λ e. ltb-below x e) (λ e. omega arith)
   where
     ltb-below : (x : ℕ) → nat_lt x 1152921504606846970 ≡ true → x < 1152921504606846970
-    ltb-below x e = ⊎_elim (λ h. h) (λ h. absurd (let t : nat_lt x 1152921504606846970 ≡ false = le-ltb x 1152921504606846970 h in let q : true ≡ false = sym e ∙ t in cc)) (cases_lt x 1152921504606846970)
+    ltb-below x e = ⊎_elim (λ h. h)
+        (λ h. absurd (let t : nat_lt x 1152921504606846970 ≡ false = le-ltb x 1152921504606846970 h in
+        let q : true ≡ false = sym e ∙ t in cc)) (cases_lt x 1152921504606846970)
 
 -- what is below its limit is kept
 pub kept_below : (f : Field) (x : ℕ) → x < limit f → kept f x ≡ x
@@ -45,32 +47,44 @@ kept_cond : (f : Field) (b : Bool) (x y : ℕ) → kept f (cond b x y) ≡ cond 
 kept_cond f true x y = refl
 kept_cond f false x y = refl
 
-kept_written_at : (n : ℕ) (f : Field) (v : ℕ) (c : Cells) (m : ℕ) (g : Field) → kept g (written n f v c m g) ≡ written n f (kept f v) (kept_cells c) m g
+kept_written_at : (n : ℕ) (f : Field) (v : ℕ) (c : Cells) (m : ℕ) (g : Field)
+    → kept g (written n f v c m g) ≡ written n f (kept f v) (kept_cells c) m g
 kept_written_at n f v c m g =
     let s : Bool = m == n in let t : Bool = field_number g == field_number f in
     kept_cond g t (cond s v (c m g)) (c m g) ∙ ⊎_elim
     (λ e. cond-true t (kept g (cond s v (c m g))) (kept g (c m g)) e ∙ kept_cond g s v (c m g)
-    ∙ (let same : g ≡ f = same_field g f (eqb-true (field_number g) (field_number f) e) in ap (λ (h : Field). cond s (kept h v) (kept g (c m g))) same)
+    ∙ (let same : g ≡ f = same_field g f (eqb-true (field_number g) (field_number f) e) in
+    ap (λ (h : Field). cond s (kept h v) (kept g (c m g))) same)
     ∙ sym (cond-true t (cond s (kept f v) (kept g (c m g))) (kept g (c m g)) e))
-    (λ e. cond-false t (kept g (cond s v (c m g))) (kept g (c m g)) e ∙ sym (cond-false t (cond s (kept f v) (kept g (c m g))) (kept g (c m g)) e))
+    (λ e. cond-false t (kept g (cond s v (c m g))) (kept g (c m g)) e
+    ∙ sym (cond-false t (cond s (kept f v) (kept g (c m g))) (kept g (c m g)) e))
     (cases_Bool t)
 
-pub kept_written : (n : ℕ) (f : Field) (v : ℕ) (c : Cells) → kept_cells (written n f v c) ≡ written n f (kept f v) (kept_cells c)
+pub kept_written : (n : ℕ) (f : Field) (v : ℕ) (c : Cells)
+    → kept_cells (written n f v c) ≡ written n f (kept f v) (kept_cells c)
 kept_written n f v c = λ i m g. kept_written_at n f v c m g i
 
-pub kept_node : (slot : ℕ) (fields : Field → ℕ) (c : Cells) → kept_cells (with_node slot fields c) ≡ with_node slot (λ f. kept f (fields f)) (kept_cells c)
+pub kept_node : (slot : ℕ) (fields : Field → ℕ) (c : Cells)
+    → kept_cells (with_node slot fields c) ≡ with_node slot (λ f. kept f (fields f)) (kept_cells c)
 kept_node slot fields c = λ i m g. kept_cond g (m == slot) (fields g) (c m g) i
 
 -- words written one after another as they are kept are the kept cells after all changes
-pub kept_adds : (slot : ℕ) (adds : List Add) (c : Cells) → with_adds slot adds (kept_cells c) ≡ kept_cells (with_changes (map (change_at slot) adds) c)
+pub kept_adds : (slot : ℕ) (adds : List Add) (c : Cells)
+    → with_adds slot adds (kept_cells c) ≡ kept_cells (with_changes (map (change_at slot) adds) c)
 kept_adds slot [] c = refl
 kept_adds slot (a ∷ adds) c =
     let v : ℕ = number_at slot a.new in
-    let here : written a.node a.field (kept a.field v) (kept_cells c) ≡ kept_cells (written a.node a.field v c) = sym (kept_written a.node a.field v c) in
+    let here : written a.node a.field (kept a.field v) (kept_cells c) ≡ kept_cells (written a.node a.field v c)
+    = sym (kept_written a.node a.field v c) in
     ap (λ (d : Cells). with_adds slot adds d) here ∙ kept_adds slot adds (written a.node a.field v c)
 
 node_written_at : (c : Cells) (slot version : ℕ) (fresh : Fresh) (m : ℕ) (g : Field)
-    → written slot Spare 0 (written slot Height fresh.height (written slot Parent fresh.parent (written slot Right 0 (written slot Left 0 (written slot Value fresh.value (written slot Key fresh.key (written slot Version (kept Version (version + 1)) c))))))) m g
+    → written slot Spare 0
+    (written slot Height fresh.height
+    (written slot Parent fresh.parent
+    (written slot Right 0
+    (written slot Left 0 (written slot Value fresh.value
+    (written slot Key fresh.key (written slot Version (kept Version (version + 1)) c))))))) m g
     ≡ with_node slot (λ f. kept f (fresh_fields version fresh f)) c m g
 node_written_at c slot version fresh m Version = refl
 node_written_at c slot version fresh m Key = refl
@@ -83,7 +97,12 @@ node_written_at c slot version fresh m Spare = refl
 
 -- the eight fields of a fresh node written one after another are the node written
 pub node_written : (c : Cells) (slot version : ℕ) (fresh : Fresh)
-    → written slot Spare 0 (written slot Height fresh.height (written slot Parent fresh.parent (written slot Right 0 (written slot Left 0 (written slot Value fresh.value (written slot Key fresh.key (written slot Version (kept Version (version + 1)) c)))))))
+    → written slot Spare 0
+    (written slot Height fresh.height
+    (written slot Parent fresh.parent
+    (written slot Right 0
+    (written slot Left 0 (written slot Value fresh.value
+    (written slot Key fresh.key (written slot Version (kept Version (version + 1)) c)))))))
     ≡ with_node slot (λ f. kept f (fresh_fields version fresh f)) c
 node_written c slot version fresh = λ i m g. node_written_at c slot version fresh m g i
 
@@ -92,13 +111,16 @@ below_cond true x y z h k = h
 below_cond false x y z h k = k
 
 -- cells stay below their limits where what is written is
-pub below_written : (n : ℕ) (f : Field) (v : ℕ) (c : Cells) → v < limit f → AreBelowLimits c → AreBelowLimits (written n f v c)
-below_written n f v c small below m g = cond_both (field_number g == field_number f) (cond (m == n) v (c m g)) (c m g) (λ y. y < limit g)
+pub below_written : (n : ℕ) (f : Field) (v : ℕ) (c : Cells) → v < limit f → AreBelowLimits c
+    → AreBelowLimits (written n f v c)
+below_written n f v c small below m g = cond_both (field_number g == field_number f) (cond (m == n) v (c m g)) (c m g)
+    (λ y. y < limit g)
     (λ e. let same : g ≡ f = same_field g f (eqb-true (field_number g) (field_number f) e) in
     below_cond (m == n) v (c m g) (limit g) (subst (λ (h : Field). v < limit h) (sym same) small) (below m g))
     (λ e. below m g)
 
-pub below_node : (slot : ℕ) (fields : Field → ℕ) (c : Cells) → ((f : Field) → fields f < limit f) → AreBelowLimits c → AreBelowLimits (with_node slot fields c)
+pub below_node : (slot : ℕ) (fields : Field → ℕ) (c : Cells) → ((f : Field) → fields f < limit f) → AreBelowLimits c
+    → AreBelowLimits (with_node slot fields c)
 below_node slot fields c small below m g = below_cond (m == slot) (fields g) (c m g) (limit g) (small g) (below m g)
 
 -- what a word of an exchange gets stays below its field's limit

@@ -131,8 +131,10 @@ module _ (slots : ℕ) (c : Cells) (past : List Event) (nodes : AreNodes slots p
         (cases_Bool (is_node p.mark n)))
         (λ out.
         let m : is_node p.mark n ≡ false = ⊎_elim
-        (λ is. absurd (out (marked_added p.mark p.adds n lawful.mark is))) (λ is. is) (cases_Bool (is_node p.mark n)) in
-        ap (λ (y : ℕ). y % 2) (words_else slot p.adds before n Version out) ∙ parity_of_fresh slots slot n c p.fresh takes
+        (λ is. absurd (out (marked_added p.mark p.adds n lawful.mark is))) (λ is. is)
+        (cases_Bool (is_node p.mark n)) in
+        ap (λ (y : ℕ). y % 2) (words_else slot p.adds before n Version out)
+        ∙ parity_of_fresh slots slot n c p.fresh takes
         ∙ sym (cond-false (is_node p.mark n) 1 unmarked m))
         (added_or_not n Version p.adds)
 
@@ -141,12 +143,14 @@ module _ (slots : ℕ) (c : Cells) (past : List Event) (nodes : AreNodes slots p
       marked_slot : (mark : Option ℕ) → p.mark ≡ mark → IfSome mark (λ n. IsSlot slots n × IsEven (c n Version))
       marked_slot None is = tt
       marked_slot (Some n) is =
-          let alone : MarksAlone (Some n) p.adds = subst (λ (mark : Option ℕ). MarksAlone mark p.adds) is lawful.mark in
+          let alone : MarksAlone (Some n) p.adds
+          = subst (λ (mark : Option ℕ). MarksAlone mark p.adds) is lawful.mark in
           let seen : IsNode slots n × IsEven (c n Version) = seen_of_mark n alone.0 in
           let not_1 : n ≢ 1 = λ e.
           (let m : is_node p.mark 1 ≡ true = ap (λ (mark : Option ℕ). is_node mark 1) is ∙ eq-eqb n 1 e in
           let odd : changed_cells p slot c 1 Version % 2 ≡ 1
-          = parity_left 1 ∙ cond-true (is_node p.mark 1) 1 (if is_node (taken_by p.fresh slot) 1 then 0 else c 1 Version % 2) m in
+          = parity_left 1 ∙ cond-true (is_node p.mark 1) 1
+          (if is_node (taken_by p.fresh slot) 1 then 0 else c 1 Version % 2) m in
           let even : changed_cells p slot c 1 Version % 2 ≡ 0 = sentinel in
           absurd (omega arith)) in
           let low : IsNode slots n = seen.0 in

@@ -19,7 +19,8 @@ is_among_last slots k n = nat_lt (slots + 1) (n + k) && nat_le n (slots + 1)
 pub none_pushed : (slots n : ℕ) → 0 ≡ one_if (is_among_last slots 0 n)
 none_pushed slots n = let e : is_among_last slots 0 n ≡ false = grind (arith, nat_tests) in sym (ap one_if e)
 
-pub one_pushed : (slots k n : ℕ) (xs : List ℕ) → k < slots → count n xs ≡ one_if (is_among_last slots k n) → count n (xs ++ (slots + 1 - k) ∷ []) ≡ one_if (is_among_last slots (k + 1) n)
+pub one_pushed : (slots k n : ℕ) (xs : List ℕ) → k < slots → count n xs ≡ one_if (is_among_last slots k n)
+    → count n (xs ++ (slots + 1 - k) ∷ []) ≡ one_if (is_among_last slots (k + 1) n)
 one_pushed slots k n xs h before =
     let s : ℕ = slots + 1 - k in
     let split : count n (xs ++ s ∷ []) ≡ count n xs + (one_if (s == n) + 0) = count-append n xs (s ∷ []) in
@@ -38,7 +39,8 @@ one_pushed slots k n xs h before =
     (cases_eq s n)
 
 pub all_pushed : (slots n : ℕ) → one_if (is_among_last slots slots n) ≡ one_if (nat_le 2 n && nat_le n (slots + 1))
-all_pushed slots n = let same : is_among_last slots slots n ≡ (nat_le 2 n && nat_le n (slots + 1)) = grind (arith, nat_tests) in ap one_if same
+all_pushed slots n = let same : is_among_last slots slots n ≡ (nat_le 2 n && nat_le n (slots + 1))
+    = grind (arith, nat_tests) in ap one_if same
 
 -- cells in which the nodes below a number have the version 1, and all else is 0
 abbrev pub unused_below : ℕ → Cells
@@ -64,7 +66,8 @@ unused_more_at k n Spare = refl
 pub unused_more : (k : ℕ) → written k Version 1 (unused_below k) ≡ unused_below (k + 1)
 unused_more k = λ i n f. unused_more_at k n f i
 
-pub opened : (slots n : ℕ) (f : Field) → n ≤ slots + 1 → written 1 Key 4611686018427387903 (written 1 Version 0 (unused_below (slots + 2))) n f ≡ opening_fields n f
+pub opened : (slots n : ℕ) (f : Field) → n ≤ slots + 1
+    → written 1 Key 4611686018427387903 (written 1 Version 0 (unused_below (slots + 2))) n f ≡ opening_fields n f
 opened slots n Version h = grind (arith, nat_tests)
 opened slots n Key h = refl
 opened slots n Value h = refl
@@ -97,27 +100,35 @@ zero_small Parent = omega arith
 zero_small Height = omega arith
 zero_small Spare = omega arith
 
-module _ (slots : ℕ) (words : List ℕ) (long : length words ≡ 8 * (slots + 2)) (opens : OpensCells slots (cells_in words)) where
+module _ (slots : ℕ) (words : List ℕ) (long : length words ≡ 8 * (slots + 2))
+    (opens : OpensCells slots (cells_in words)) where
   opening_below : AreBelowLimits (cells_in words)
   opening_below n f = ⊎_elim
       (λ h. let e : cells_in words n f ≡ opening_fields n f = opens n f (omega arith) in rw e (opening_small n f))
-      (λ h. let e : cells_in words n f ≡ 0 = get_or_past words (8 * n + field_number f) 0 (omega arith) in rw e (zero_small f))
+      (λ h. let e : cells_in words n f ≡ 0 = get_or_past words (8 * n + field_number f) 0 (omega arith) in
+      rw e (zero_small f))
       (cases_lt n (slots + 2))
 
-  opening_once : (free : List ℕ) → HasEachSlot slots free → (n : ℕ) → count n free ≡ one_if (is_free slots (cells_in words) n)
+  opening_once : (free : List ℕ) → HasEachSlot slots free → (n : ℕ)
+      → count n free ≡ one_if (is_free slots (cells_in words) n)
   opening_once free each n =
       let b : Bool = nat_le 2 n && nat_le n (slots + 1) in
       each n ∙ ⊎_elim
-      (λ e. let parts : (nat_le 2 n ≡ true) × (nat_le n (slots + 1) ≡ true) = and_parts (nat_le 2 n) (nat_le n (slots + 1)) e in
-      let v : cells_in words n Version ≡ 1 = opens n Version (leb-true n (slots + 1) parts.1) ∙ version_opened n (leb-true 2 n parts.0) in
+      (λ e. let parts : (nat_le 2 n ≡ true) × (nat_le n (slots + 1) ≡ true)
+      = and_parts (nat_le 2 n) (nat_le n (slots + 1)) e in
+      let v : cells_in words n Version ≡ 1 = opens n Version (leb-true n (slots + 1) parts.1)
+      ∙ version_opened n (leb-true 2 n parts.0) in
       let odd : (cells_in words n Version % 2 == 1) ≡ true = ap (λ (x : ℕ). x % 2 == 1) v in
       let is : is_free slots (cells_in words) n ≡ true = and_from b (cells_in words n Version % 2 == 1) e odd in
       ap one_if e ∙ sym (ap one_if is))
-      (λ e. let is : is_free slots (cells_in words) n ≡ false = and_left b (cells_in words n Version % 2 == 1) e in ap one_if e ∙ sym (ap one_if is))
+      (λ e. let is : is_free slots (cells_in words) n ≡ false = and_left b (cells_in words n Version % 2 == 1) e in
+      ap one_if e ∙ sym (ap one_if is))
       (cases_Bool b)
 
-  pub opening_sound : (free : List ℕ) (capacity : ℕ) → slots ≤ 61000 → HasEachSlot slots free → capacity ≡ slots → IsSoundPlain slots words free capacity
-  opening_sound free capacity few each room = record { few = few; long = long; fit = opening_below; free_once = opening_once free each; room = omega arith }
+  pub opening_sound : (free : List ℕ) (capacity : ℕ) → slots ≤ 61000 → HasEachSlot slots free → capacity ≡ slots
+      → IsSoundPlain slots words free capacity
+  opening_sound free capacity few each room =
+      record { few = few; long = long; fit = opening_below; free_once = opening_once free each; room = omega arith }
 
   pub opening_empty : IsSearchTree plain slots (cells_in words) []
   opening_empty =
@@ -128,7 +139,8 @@ module _ (slots : ℕ) (words : List ℕ) (long : length words ≡ 8 * (slots + 
         pairs = refl;
         rising = tt;
         small = tt;
-        covered = λ n s e. let v : cells_in words n Version ≡ 1 = opens n Version s.1 ∙ version_opened n s.0 in absurd (let odd : 1 % 2 ≡ 0 = rw v at e in omega arith);
+        covered = λ n s e. let v : cells_in words n Version ≡ 1 = opens n Version s.1 ∙ version_opened n s.0 in
+            absurd (let odd : 1 % 2 ≡ 0 = rw v at e in omega arith);
         unmarked = ap (λ (x : ℕ). x % 2) even;
         no_right = opens 1 Right (omega arith);
         no_parent = opens 1 Parent (omega arith);

@@ -29,6 +29,7 @@ pub quiet_plans : {P C : Type 0} (start : C → P) (moves : P → Told → P × 
     → AsksForNoExchange start moves can_call → ChangeNothing start moves can_call form
 quiet_plans start moves can_call form quiet = record {
   stays = λ call old new r can run.
-      quiet_end form old new (past_of start moves call run.0) r (reached start moves call run.0).1 (quiet call run.0 can) run.2;
+      quiet_end form old new (past_of start moves call run.0) r (reached start moves call run.0).1
+      (quiet call run.0 can) run.2;
   never_refused = λ call w can come. wants_none (reached start moves call come.0).1 (quiet call come.0 can) come.2;
 }

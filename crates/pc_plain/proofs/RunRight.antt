@@ -138,9 +138,11 @@ module _ {P C : Type 0} (start : C → P) (moves : P → Told → P × Ask) (can
     pub comes_to_make : HoldsPairs form w → CanMake w p
     comes_to_make holds slot takes =
         let sentinel : IsEven (applied (exchange_in w past p slot) (cells_of w) 1 Version)
-        = laws.form_laws.sentinel w.slots (applied (exchange_in w past p slot) (cells_of w)) ((terms call).step holds.0).pairs
+        = laws.form_laws.sentinel w.slots (applied (exchange_in w past p slot) (cells_of w))
+        ((terms call).step holds.0).pairs
         (right_change holds.0 holds.1 slot takes).leaves in
-        lawful_fits w.slots (cells_of w) past (nodes_along holds come.0 come.1) past_holds p lawful_change slot takes sentinel
+        lawful_fits w.slots (cells_of w) past
+        (nodes_along holds come.0 come.1) past_holds p lawful_change slot takes sentinel
 
     module _ (new : PlainWords) (size : new.slots ≡ w.slots) (written : IsWritten w new p) where
       -- an exchange that was written was made
@@ -168,7 +170,8 @@ module _ {P C : Type 0} (start : C → P) (moves : P → Told → P × Ask) (can
           let next : Pairs = ((terms call).step ps).pairs in
           let after : Cells = applied (exchange_in w past p written.slot) (cells_of w) in
           let left : form.sound w.slots (cells_of new) next
-          = laws.form_laws.parity w.slots after (cells_of new) next (kept_but_versions w.slots after (cells_of new) written.cells)
+          = laws.form_laws.parity w.slots after (cells_of new) next
+          (kept_but_versions w.slots after (cells_of new) written.cells)
           (right_change ps sound written.slot written.takes).leaves in (
             (comes_right (Change p) come ps sound).0,
             subst (λ (slots : ℕ). form.sound slots (cells_of new) next) (sym size) left,

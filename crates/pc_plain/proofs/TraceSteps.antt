@@ -34,7 +34,8 @@ module _ {P : Type 0} (moves : P → Told → P × Ask) where
   goes_at_first w plan told = record { trace = []; agrees = tt; leads = refl; long = refl }
 
   module _ (w : PlainWords) (s : P × Ask) (m : ℕ) (plan : P) (told : Told) (goes : GoesOn moves w s m plan told) where
-    further_agrees : (us : List Told) → Agrees moves (cells_of w) (moves plan told) us → Agrees moves (cells_of w) s (goes.trace ++ us)
+    further_agrees : (us : List Told) → Agrees moves (cells_of w) (moves plan told) us
+        → Agrees moves (cells_of w) s (goes.trace ++ us)
     further_agrees us agrees = agrees_append (cells_of w) s goes.trace us goes.agrees
         (subst (λ (x : P × Ask). Agrees moves (cells_of w) x us) goes.leads agrees)
 
@@ -53,16 +54,22 @@ module _ {P : Type 0} (moves : P → Told → P × Ask) where
 
     -- some turns, and then the end
     pub comes_further : (ask : Ask) → ComesFrom moves w (moves plan told) ask → ComesFrom moves w s ask
-    comes_further ask end =
-        (goes.trace ++ end.0, further_agrees end.0 end.1, ap (λ (x : P × Ask). x.1) (sym (further_leads end.0)) ∙ end.2)
+    comes_further ask end = (
+      goes.trace ++ end.0,
+      further_agrees end.0 end.1,
+      ap (λ (x : P × Ask). x.1) (sym (further_leads end.0))
+          ∙ end.2,
+    )
 
     -- the same of what a turn results in
     pub goes_on_by : {E : Type 0} (n : ℕ) (plan' : P) (r : Result Told E)
-        → IfOk r (λ next. GoesOn moves w (moves plan told) n plan' next) → IfOk r (λ next. GoesOn moves w s (m + n) plan' next)
+        → IfOk r (λ next. GoesOn moves w (moves plan told) n plan' next)
+        → IfOk r (λ next. GoesOn moves w s (m + n) plan' next)
     goes_on_by n plan' (Ok next) h = goes_further n plan' next h
     goes_on_by n plan' (Err end) h = tt
 
-    pub ends_by : {E : Type 0} (last : E → Ask) (r : Result Told E) → IfErr r (λ end. ComesFrom moves w (moves plan told) (last end))
+    pub ends_by : {E : Type 0} (last : E → Ask) (r : Result Told E)
+        → IfErr r (λ end. ComesFrom moves w (moves plan told) (last end))
         → IfErr r (λ end. ComesFrom moves w s (last end))
     ends_by last (Ok next) h = tt
     ends_by last (Err end) h = comes_further (last end) h

@@ -27,7 +27,8 @@ pub record IsMade (form : Form) (old new : PlainWords) (past : List Event) (p : 
   pub takes : Takes old.slots (cells_of old) p slot
   pub stood : Stands (exchange_in old past p slot) (cells_of old)
   pub fits : Fits form old.slots (exchange_in old past p slot) p.charged
-  pub cells : (n : ℕ) (f : Field) → cells_of new n f ≡ kept f (applied (exchange_in old past p slot) (cells_of old) n f)
+  pub cells : (n : ℕ) (f : Field)
+      → cells_of new n f ≡ kept f (applied (exchange_in old past p slot) (cells_of old) n f)
 
 -- every slot is in use
 abbrev pub AllInUse : PlainWords → Type 0

@@ -34,7 +34,8 @@ pub record CanTakeSlot (words free : List ℕ) : Type 0 where
 -- the slot was the stack's last where there is a fresh node, and the node is written there
 pub record TakesSlot (fresh : Option Fresh) (old_words new_words old_free new_free : List ℕ) (slot : ℕ) : Type 0 where
   pub taken : old_free ≡ new_free ++ option_to_list (taken_by fresh slot)
-  pub cells : cells_in new_words ≡ kept_cells (with_fresh (fresh_at slot (cells_in old_words slot VersionField) fresh) (cells_in old_words))
+  pub cells : cells_in new_words ≡ kept_cells
+      (with_fresh (fresh_at slot (cells_in old_words slot VersionField) fresh) (cells_in old_words))
   pub long : length new_words ≡ length old_words
   pub small : slot < 4294967296
   pub parent : IfSome fresh (λ f. f.parent < 4294967296)

@@ -1,10 +1,12 @@
 //! The words of nodes in one list, eight a node: how one word, a fresh node and the words of an
 //! exchange are written.
-ghost use Rattle.std.specs.Prelude.{◌≡◌, ◌+◌, ◌*◌, ◌^◌, ◌<◌, ◌≤◌, [], ◌++◌, length, vec_len, vec_capacity, IfOk, IfSome, IfNone, IsSome, option_to_list};
+ghost use Rattle.std.specs.Prelude.{◌≡◌, ◌+◌, ◌*◌, ◌^◌, ◌<◌, ◌≤◌, [], ◌++◌, length, vec_len, vec_capacity};
+ghost use Rattle.std.specs.Prelude.{IfOk, IfSome, IfNone, IsSome, option_to_list};
 ghost use Rattle.pc_model.specs.Cells.{field_number, written, with_node};
 ghost use Rattle.pc_plan.specs.Runs.{number_at, fresh_fields};
 ghost use Rattle.pc_plain.specs.PlainCells.{cells_in, kept};
-ghost use Rattle.pc_plain.specs.PlainWriting.{with_adds, CanTakeSlot, TakesSlot, OpensCells, HasEachSlot, ReachWords, AddsReach};
+ghost use Rattle.pc_plain.specs.PlainWriting.{with_adds, CanTakeSlot, TakesSlot, ReachWords, AddsReach};
+ghost use Rattle.pc_plain.specs.PlainWriting.{OpensCells, HasEachSlot};
 
 use pc_model::{Field, Memory};
 use pc_plan::{Add, Fresh, SENTINEL, To};
@@ -78,7 +80,8 @@ fn number_for(slot: u32, to: To) -> u64
 fn write_fresh(words: &mut Vec<u64>, slot: u32, version: u64, fresh: Fresh)
     requires reach { ReachWords slot (length words.old.items) }
     requires room { version + 1 < 2 ^ 64 }
-    ensures cells { cells_in words.new.items ≡ with_node slot (λ f. kept f (fresh_fields version fresh f)) (cells_in words.old.items) }
+    ensures cells { cells_in words.new.items ≡
+        with_node slot (λ f. kept f (fresh_fields version fresh f)) (cells_in words.old.items) }
     ensures long { length words.new.items ≡ length words.old.items }
     ensures parent { fresh.parent < 2 ^ 32 }
 {

@@ -5,6 +5,7 @@ use crate::node_store::NodeStore;
 use pc_model::{Field, Memory, Reply};
 use pc_plan::Change;
 use std::alloc::Global;
+use std::fmt;
 use std::marker::Model;
 
 /// Plain cells for one tree.
@@ -47,5 +48,13 @@ impl PlainCells {
         ensures few { self.now.slots ≤ 61000 }
     {
         self.nodes.word(node, field)
+    }
+}
+
+impl fmt::Debug for PlainCells {
+    fn fmt<W: fmt::Write>(&self, f: &mut fmt::Formatter<W>) -> fmt::Result {
+        f.debug_struct("PlainCells")
+            .field("nodes", &self.nodes)
+            .finish()
     }
 }

@@ -1,5 +1,7 @@
+use crate::node_store::NoPlainSlot;
 use crate::plain::PlainCells;
 use crate::tree_pairs::pairs;
+use std::test::Fail;
 
 #[test]
 fn cells_of_an_empty_tree(rt: HostRuntime) {
@@ -13,4 +15,14 @@ fn cells_of_an_empty_tree(rt: HostRuntime) {
             assert_eq!(rt; listed.len(), 0);
         }
     }
+}
+
+#[test]
+fn a_refusal_says_that_no_slot_is_free(rt: HostRuntime) -> Result<(), Fail> {
+    let refused = NoPlainSlot { live: 3 };
+    assert_eq!(rt;
+        format!(in rt.alloc(); "{refused}")?.as_str(),
+        "no slot is free"
+    );
+    Ok(())
 }

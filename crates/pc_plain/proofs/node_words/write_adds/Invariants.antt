@@ -7,5 +7,6 @@ abbrev pub invariant-loop-add : goal.invariant-loop-add
 invariant-loop-add l = record {
   reach : AddsReach (length l.words.items) (drop l.add-index l.adds);
   long : length l.words.items ≡ length l.initial.words.items;
-  cells : with_adds l.slot (drop l.add-index l.adds) (cells_in l.words.items) ≡ with_adds l.slot l.adds (cells_in l.initial.words.items);
+  cells : with_adds l.slot (drop l.add-index l.adds) (cells_in l.words.items) ≡ with_adds l.slot l.adds
+      (cells_in l.initial.words.items);
 }

@@ -7,11 +7,13 @@ use Rattle.pc_plain.proofs.run.end_of.Goals as goal
 use Rattle.pc_plain.proofs.run.end_of.Goals.{After-slots}
 
 pub loop-round-init : goal.loop-round-init
-loop-round-init g c = rw c.begin-plan.ensures (goes_at_first g.P.Plan.moves c.args.nodes.now (g.P.Plan.start c.args.call) Begin)
+loop-round-init g c =
+    rw c.begin-plan.ensures (goes_at_first g.P.Plan.moves c.args.nodes.now (g.P.Plan.start c.args.call) Begin)
 
 pub take_three_turns-requires : goal.take_three_turns-requires
 take_three_turns-requires g c =
-    can_further g.P.Plan.moves c.args.nodes.now (g.P.Plan.moves (g.P.Plan.start c.args.call) Begin) (3 * c.loop-round._round)
+    can_further g.P.Plan.moves c.args.nodes.now (g.P.Plan.moves (g.P.Plan.start c.args.call) Begin)
+    (3 * c.loop-round._round)
     c.loop-round.plan c.loop-round.told c.loop-round.invariant
     (can_go_on g.P.Plan.start g.P.Plan.moves g.P.Plan.can_call g.P.Plan.terms g.P.Plan.form g.met.P.Plan.laws
     c.args.nodes.now c.slots.ensures.few c.slots.ensures.fit c.args.call c.requires.call c.requires.sound)

@@ -20,7 +20,8 @@ by_writing : (g : Over) (c : After-make g) (Q : PlainWords → Reply → Type 0)
     → (Writes g c → Q c.cells.inside.nodes c.end_of.new.change.reply) → IfOk c.make.result (Q c.args.cells.now)
 by_writing g c Q q =
     subst (λ (w : PlainWords). IfOk c.make.result (Q w)) c.cells.view_is
-    (from_reply c.make.result c.end_of.new.change.reply (Writes g c) (Q c.cells.inside.nodes) c.make.ensures.reply c.make.ensures.made q)
+    (from_reply c.make.result c.end_of.new.change.reply (Writes g c)
+    (Q c.cells.inside.nodes) c.make.ensures.reply c.make.ensures.made q)
 
 pub make-requires : goal.make-requires
 make-requires g c =
@@ -32,15 +33,18 @@ pub returns-in-Exchange-clause-run : goal.returns-in-Exchange-clause-run
 returns-in-Exchange-clause-run g c =
     let at : After-make g = (goal.at.returns-in-Exchange-clause-run g c).After-make in
     by_writing g at (λ w. IsRunOf g.P.Plan.start g.P.Plan.moves g.P.Plan.form c.args.call w c.make.new.self)
-    (λ written. change_run g.P.Plan.start g.P.Plan.moves g.P.Plan.can_call g.P.Plan.terms g.P.Plan.form g.met.P.Plan.laws
+    (λ written. change_run g.P.Plan.start g.P.Plan.moves g.P.Plan.can_call g.P.Plan.terms g.P.Plan.form
+    g.met.P.Plan.laws
     c.cells.inside.nodes c.end_of.ensures.few c.end_of.ensures.fit c.args.call c.requires.call
     c.end_of.new.change c.in-Exchange.ensures.comes c.make.new.self c.make.ensures.size written
     (holds g (goal.at.returns-in-Exchange-clause-run g c).In-Exchange))
 
-right : (g : Over) (c : After-make g) → IfOk c.make.result (RunsRight g.P.Plan.form (g.P.Plan.terms c.args.call) c.args.cells.now c.make.new.self)
+right : (g : Over) (c : After-make g)
+    → IfOk c.make.result (RunsRight g.P.Plan.form (g.P.Plan.terms c.args.call) c.args.cells.now c.make.new.self)
 right g c =
     by_writing g c (λ w. RunsRight g.P.Plan.form (g.P.Plan.terms c.args.call) w c.make.new.self)
-    (λ written. change_right g.P.Plan.start g.P.Plan.moves g.P.Plan.can_call g.P.Plan.terms g.P.Plan.form g.met.P.Plan.laws
+    (λ written. change_right g.P.Plan.start g.P.Plan.moves g.P.Plan.can_call g.P.Plan.terms g.P.Plan.form
+    g.met.P.Plan.laws
     c.cells.inside.nodes c.end_of.ensures.few c.end_of.ensures.fit c.args.call c.requires.call
     c.end_of.new.change c.in-Exchange.ensures.comes c.make.new.self c.make.ensures.size written)
 
@@ -52,4 +56,5 @@ returns-in-Exchange-clause-sound g c =
     let at : After-make g = (goal.at.returns-in-Exchange-clause-sound g c).After-make in
     from_ok c.make.result (RunsRight g.P.Plan.form (g.P.Plan.terms c.args.call) c.args.cells.now c.make.new.self)
     (HoldsPairs g.P.Plan.form c.make.new.self) (right g at)
-    (λ reply is. holds_after g.P.Plan.form (g.P.Plan.terms c.args.call) c.args.cells.now c.make.new.self reply is c.requires.sound)
+    (λ reply is. holds_after g.P.Plan.form
+    (g.P.Plan.terms c.args.call) c.args.cells.now c.make.new.self reply is c.requires.sound)

@@ -49,28 +49,36 @@ returns-in-Visit-clause-goes_on g c =
 pub word-requires-in-Read-default-Left : goal.word-requires-in-Read-default-Left
 word-requires-in-Read-default-Left g c =
     let is : c.step.result ≡ Read c.in-Read-default-Left.node Left
-    = c.in-Read-default-Left.is ∙ ap (λ (f : Field). Read c.in-Read-default-Left.node f) c.in-Read-default-Left.field-1-is in
+    = c.in-Read-default-Left.is
+    ∙ ap (λ (f : Field). Read c.in-Read-default-Left.node f) c.in-Read-default-Left.field-1-is in
     (can g (goal.at.word-requires-in-Read-default-Left g c).After-step (Read c.in-Read-default-Left.node Left) is).1
 
 pub returns-in-Read-default-Left-clause-goes_on : goal.returns-in-Read-default-Left-clause-goes_on
 returns-in-Read-default-Left-clause-goes_on g c =
     let is : c.step.result ≡ Read c.in-Read-default-Left.node Left
-    = c.in-Read-default-Left.is ∙ ap (λ (f : Field). Read c.in-Read-default-Left.node f) c.in-Read-default-Left.field-1-is in
-    goes g (goal.at.returns-in-Read-default-Left-clause-goes_on g c).After-step (Read c.in-Read-default-Left.node Left) (Number c.word-in-Read-default-Left.result) is
-    (told_number (cells_of c.args.nodes.now) c.in-Read-default-Left.node Left c.word-in-Read-default-Left.result c.word-in-Read-default-Left.ensures.value)
+    = c.in-Read-default-Left.is
+    ∙ ap (λ (f : Field). Read c.in-Read-default-Left.node f) c.in-Read-default-Left.field-1-is in
+    goes g (goal.at.returns-in-Read-default-Left-clause-goes_on g c).After-step
+    (Read c.in-Read-default-Left.node Left) (Number c.word-in-Read-default-Left.result) is
+    (told_number (cells_of c.args.nodes.now) c.in-Read-default-Left.node Left c.word-in-Read-default-Left.result
+    c.word-in-Read-default-Left.ensures.value)
 
 pub word-requires-in-Read-default-Right : goal.word-requires-in-Read-default-Right
 word-requires-in-Read-default-Right g c =
     let is : c.step.result ≡ Read c.in-Read-default-Right.node Right
-    = c.in-Read-default-Right.is ∙ ap (λ (f : Field). Read c.in-Read-default-Right.node f) c.in-Read-default-Right.field-1-is in
+    = c.in-Read-default-Right.is
+    ∙ ap (λ (f : Field). Read c.in-Read-default-Right.node f) c.in-Read-default-Right.field-1-is in
     (can g (goal.at.word-requires-in-Read-default-Right g c).After-step (Read c.in-Read-default-Right.node Right) is).1
 
 pub returns-in-Read-default-Right-clause-goes_on : goal.returns-in-Read-default-Right-clause-goes_on
 returns-in-Read-default-Right-clause-goes_on g c =
     let is : c.step.result ≡ Read c.in-Read-default-Right.node Right
-    = c.in-Read-default-Right.is ∙ ap (λ (f : Field). Read c.in-Read-default-Right.node f) c.in-Read-default-Right.field-1-is in
-    goes g (goal.at.returns-in-Read-default-Right-clause-goes_on g c).After-step (Read c.in-Read-default-Right.node Right) (Number c.word-in-Read-default-Right.result) is
-    (told_number (cells_of c.args.nodes.now) c.in-Read-default-Right.node Right c.word-in-Read-default-Right.result c.word-in-Read-default-Right.ensures.value)
+    = c.in-Read-default-Right.is
+    ∙ ap (λ (f : Field). Read c.in-Read-default-Right.node f) c.in-Read-default-Right.field-1-is in
+    goes g (goal.at.returns-in-Read-default-Right-clause-goes_on g c).After-step
+    (Read c.in-Read-default-Right.node Right) (Number c.word-in-Read-default-Right.result) is
+    (told_number (cells_of c.args.nodes.now) c.in-Read-default-Right.node Right c.word-in-Read-default-Right.result
+    c.word-in-Read-default-Right.ensures.value)
 
 pub word-requires-in-Read : goal.word-requires-in-Read
 word-requires-in-Read g c =
@@ -80,4 +88,5 @@ pub returns-in-Read-clause-goes_on : goal.returns-in-Read-clause-goes_on
 returns-in-Read-clause-goes_on g c =
     goes g (goal.at.returns-in-Read-clause-goes_on g c).After-step (Read c.in-Read.node c.in-Read.field)
     (Number c.word-in-Read.result) c.in-Read.is
-    (told_number (cells_of c.args.nodes.now) c.in-Read.node c.in-Read.field c.word-in-Read.result c.word-in-Read.ensures.value)
+    (told_number (cells_of c.args.nodes.now) c.in-Read.node c.in-Read.field c.word-in-Read.result
+    c.word-in-Read.ensures.value)

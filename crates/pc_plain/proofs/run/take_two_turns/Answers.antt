@@ -10,10 +10,12 @@ take_turn-requires-2 g c =
 pub returns-clause-goes_on : goal.returns-clause-goes_on
 returns-clause-goes_on g c =
     goes_on_by g.P.Plan.moves c.args.nodes.now (g.P.Plan.moves c.args.plan.now c.args.told) 1 c.take_turn.new.plan
-    c.in_ok-second.second c.in_ok-second.ensures.goes_on 1 c.take_turn-2.new.plan c.take_turn-2.result c.take_turn-2.ensures.goes_on
+    c.in_ok-second.second c.in_ok-second.ensures.goes_on 1 c.take_turn-2.new.plan c.take_turn-2.result
+    c.take_turn-2.ensures.goes_on
 
 pub returns-clause-ends : goal.returns-clause-ends
 returns-clause-ends g c =
     ends_by g.P.Plan.moves c.args.nodes.now (g.P.Plan.moves c.args.plan.now c.args.told) 1 c.take_turn.new.plan
-    c.in_ok-second.second c.in_ok-second.ensures.goes_on (λ end. last_ask end c.take_turn-2.new.change) c.take_turn-2.result
+    c.in_ok-second.second c.in_ok-second.ensures.goes_on
+    (λ end. last_ask end c.take_turn-2.new.change) c.take_turn-2.result
     c.take_turn-2.ensures.ends
