@@ -5,7 +5,7 @@ use crate::laws::{plans_charge_nothing, plans_end_as_their_calls_do, plans_stand
 use crate::put::BstPut;
 use crate::remove::BstRemove;
 use pc_model::{Call, Field, Reply};
-use pc_plan::{Add, Change, Fresh, Plan, To, Told, Turn};
+use pc_plan::{Add, Ask, Change, Fresh, Plan, To, Told, Turn, exchanges_fit, standing_is_agreeing};
 
 /// What a plan is told, and what it asks next.
 type Row = (Told, Turn);
@@ -87,13 +87,14 @@ fn plans_answer_what_stands_in_the_table(rt: HostRuntime) {
     ];
     let of_get = asks(BstGet::begin(10), &[&TO_2, &found])
         && asks(BstGet::begin(5), &[&TO_2, &missing]);
+    let by_next = matches!(BstGet::begin(10).next(Told::Begin), Ask::Visit(1));
     let of_remove = asks(BstRemove::begin(5), &[&TO_2, &missing]);
     let astray = asks(BstPut::begin((5, 1)), &[&TO_2, &back])
         && asks(BstGet::begin(5), &[&TO_2, &back]);
     let entries = BstGet::entry(10) == Some(Call::Get { key: 10 })
         && BstPut::entry((5, 50)) == Some(Call::Put { key: 5, value: 50 })
         && BstRemove::entry(5) == Some(Call::Remove { key: 5 });
-    assert!(rt; of_get && of_remove && astray && entries);
+    assert!(rt; of_get && of_remove && by_next && astray && entries);
 }
 
 #[test]
@@ -234,5 +235,7 @@ fn a_remove_lifts_the_successor(rt: HostRuntime) {
     plans_stand_for_their_calls();
     plans_end_as_their_calls_do();
     plans_charge_nothing();
+    standing_is_agreeing::<BstPut>();
+    exchanges_fit::<BstPut>();
     assert!(rt; lifts && gives_up);
 }

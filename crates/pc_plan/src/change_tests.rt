@@ -1,20 +1,15 @@
-//! A change is built word by word.
+//! A change is built word by word, and built anew after it was forgotten.
 use crate::change::{Add, Change, Fresh, To};
 use pc_model::{Field, Reply};
 
-const VERSION: Add = Add {
-    node: 2,
-    field: Field::Version,
-    old: 4,
-    new: To::Number(6),
-};
-
-const LEFT: Add = Add {
-    node: 2,
-    field: Field::Left,
-    old: 0,
-    new: To::Fresh,
-};
+fn word(field: Field, old: u64, new: To) -> Add {
+    Add {
+        node: 2,
+        field,
+        old,
+        new,
+    }
+}
 
 const LEAF: Fresh = Fresh {
     key: 5,
@@ -25,19 +20,26 @@ const LEAF: Fresh = Fresh {
 
 #[test]
 fn words_and_charges_stand_in_their_order(rt: HostRuntime) {
-    let mut change = Change::new(Reply::New);
-    assert_eq!(rt; change.adds().len(), 0);
-    assert_eq!(rt; change.charged().len(), 0);
-    assert!(rt; change.fresh.is_none());
-    assert!(rt; change.mark.is_none());
-    assert!(rt; change.reply == Reply::New);
-    change.push(VERSION);
-    change.push(LEFT);
+    let mut change = Change::new(Reply::None);
+    change.mark_removed(7, 0);
+    change.charge(9);
+    change.restart(Reply::New);
+    change.raise(2, 4);
+    change.rewrite(2, Field::Left, 0, To::Fresh);
+    change.push(word(Field::Value, 1, To::Number(3)));
     change.charge(7);
     change.charge(5);
     change.fresh = Some(LEAF);
-    assert!(rt; change.adds() == [VERSION, LEFT].as_slice());
-    assert!(rt; change.charged() == [7, 5].as_slice());
+    let words = [
+        word(Field::Version, 4, To::Number(6)),
+        word(Field::Left, 0, To::Fresh),
+        word(Field::Value, 1, To::Number(3)),
+    ];
+    let lists = change.adds() == words.as_slice() && change.charged() == [7, 5].as_slice();
+    let rest = change.mark.is_none() && change.reply == Reply::New;
+    change.mark_removed(3, 8);
+    let marked = change.mark == Some(3) && change.adds().len() == 4;
+    assert!(rt; lists && rest && marked);
 }
 
 #[test]
@@ -46,13 +48,12 @@ fn a_change_holds_24_words_and_4_charges(rt: HostRuntime) {
     for _ in 0..24 {
         let room = change.adds().len() < 24;
         assert!(rt; room);
-        change.push(VERSION);
+        change.raise(2, 4);
     }
     for key in 0..4 {
         let room = change.charged().len() < 4;
         assert!(rt; room);
         change.charge(key);
     }
-    assert_eq!(rt; change.adds().len(), 24);
-    assert!(rt; change.charged() == [0, 1, 2, 3].as_slice());
+    assert!(rt; change.adds().len() == 24 && change.charged() == [0, 1, 2, 3].as_slice());
 }
