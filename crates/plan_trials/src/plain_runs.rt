@@ -1,0 +1,154 @@
+//! Calls run one after another on plain cells, with their replies and the pairs that are left.
+ghost use Rattle.std.specs.Prelude.{◌≤◌, IfOk};
+ghost use Rattle.pc_model.specs.Trees.{plain};
+ghost use Rattle.pc_model.specs.TreeForms.{tree_form};
+ghost use Rattle.pc_plain.specs.PlainRuns.{HoldsPairs};
+
+use pc_bst::{BstGet, BstPut, BstRemove};
+use pc_model::{Memory, Reply};
+use pc_plain::{NoPlainSlot, PlainCells, pairs, run_plan};
+use std::alloc::Global;
+
+/// What is called, with small keys and values.
+#[derive(Clone, Copy)]
+enum Called {
+    Put(u32, u32),
+    Get(u32),
+    Remove(u32),
+}
+
+type Answer = Result<Reply, NoPlainSlot>;
+
+fn opened(alloc: Global, slots: u32) -> Result<PlainCells, Memory>
+    requires { slots ≤ 61000 }
+    ensures { IfOk result (HoldsPairs (tree_form plain)) }
+{
+    PlainCells::new(alloc, slots)
+}
+
+/// Runs the plan of a call. The cells stay a search tree by what a run promises.
+fn answer(cells: &mut PlainCells, called: Called) -> Answer
+    requires { HoldsPairs (tree_form plain) cells.old }
+    ensures { HoldsPairs (tree_form plain) cells.new }
+{
+    let answer = match called {
+        Called::Put(key, value) => { run_plan::<BstPut>(cells, (u64::from(key), u64::from(value))) }
+        Called::Get(key) => run_plan::<BstGet>(cells, u64::from(key)),
+        Called::Remove(key) => run_plan::<BstRemove>(cells, u64::from(key)),
+    };
+    match answer {
+        Ok(reply) => Ok(reply),
+        Err(full) => Err(full),
+    }
+}
+
+/// Whether the calls are answered so on cells with so many slots, and leave these pairs.
+fn runs_so(
+    alloc: Global,
+    slots: u32,
+    calls: &[(Called, Answer)],
+    left: &[(u64, u64)],
+) -> Result<bool, Memory>
+    requires { slots ≤ 61000 }
+{
+    let mut cells = opened(alloc, slots)?;
+    for (called, wanted) in calls {
+        if answer(&mut cells, *called) != *wanted {
+            return Ok(false);
+        }
+    }
+    let listed = pairs(alloc, &cells)?;
+    Ok(listed.as_slice() == left)
+}
+
+const FULL: Answer = Err(NoPlainSlot { live: 2 });
+
+const NEW: Answer = Ok(Reply::New);
+
+#[test]
+fn calls_are_answered_as_the_sorted_map_answers(rt: HostRuntime) {
+    let alloc = rt.alloc();
+    let nothing = runs_so(
+        alloc,
+        2,
+        &[
+            (Called::Get(5), Ok(Reply::None)),
+            (Called::Remove(5), Ok(Reply::None)),
+        ],
+        &[],
+    );
+    let changes = runs_so(
+        alloc,
+        4,
+        &[
+            (Called::Put(5, 1), NEW),
+            (Called::Put(5, 2), Ok(Reply::Was(1))),
+            (Called::Get(5), Ok(Reply::Value(2))),
+            (Called::Get(6), Ok(Reply::None)),
+            (Called::Put(3, 30), NEW),
+            (Called::Put(9, 90), NEW),
+        ],
+        &[(3, 30), (5, 2), (9, 90)],
+    );
+    assert!(rt; nothing == Ok(true) && changes == Ok(true));
+}
+
+#[test]
+fn a_node_with_two_children_goes(rt: HostRuntime) {
+    let alloc = rt.alloc();
+    let right_child = runs_so(
+        alloc,
+        3,
+        &[
+            (Called::Put(2, 20), NEW),
+            (Called::Put(1, 10), NEW),
+            (Called::Put(3, 30), NEW),
+            (Called::Remove(2), Ok(Reply::Value(20))),
+        ],
+        &[(1, 10), (3, 30)],
+    );
+    let deeper = runs_so(
+        alloc,
+        6,
+        &[
+            (Called::Put(10, 10), NEW),
+            (Called::Put(5, 5), NEW),
+            (Called::Put(20, 20), NEW),
+            (Called::Put(15, 15), NEW),
+            (Called::Put(25, 25), NEW),
+            (Called::Put(17, 17), NEW),
+            (Called::Remove(10), Ok(Reply::Value(10))),
+        ],
+        &[(5, 5), (15, 15), (17, 17), (20, 20), (25, 25)],
+    );
+    assert!(rt; right_child == Ok(true) && deeper == Ok(true));
+}
+
+#[test]
+fn full_cells_refuse_a_new_key_and_stay(rt: HostRuntime) {
+    let alloc = rt.alloc();
+    let refused = runs_so(
+        alloc,
+        2,
+        &[
+            (Called::Put(1, 1), NEW),
+            (Called::Put(2, 2), NEW),
+            (Called::Put(3, 3), FULL),
+            (Called::Put(2, 5), Ok(Reply::Was(2))),
+        ],
+        &[(1, 1), (2, 5)],
+    );
+    let freed = runs_so(
+        alloc,
+        2,
+        &[
+            (Called::Put(1, 1), NEW),
+            (Called::Put(2, 2), NEW),
+            (Called::Put(3, 3), FULL),
+            (Called::Remove(1), Ok(Reply::Value(1))),
+            (Called::Put(3, 3), NEW),
+        ],
+        &[(2, 2), (3, 3)],
+    );
+    assert!(rt; refused == Ok(true) && freed == Ok(true));
+}
