@@ -37,7 +37,8 @@ has-without_other q k (x ∷ keys) differs = grind (arith, nat_tests, has-withou
 
 pub without_key-absent : (k : ℕ) (keys : List ℕ) → has k keys ≡ false → without_key k keys ≡ keys
 without_key-absent k [] absent = refl
-without_key-absent k (x ∷ keys) absent = let rest : has k keys ≡ false → without_key k keys ≡ keys = without_key-absent k keys in grind (arith, nat_tests)
+without_key-absent k (x ∷ keys) absent = let rest : has k keys ≡ false → without_key k keys ≡ keys =
+    without_key-absent k keys in grind (arith, nat_tests)
 
 take-take-le : (n m : ℕ) (keys : List ℕ) → n ≤ m → take n (take m keys) ≡ take n keys
 take-take-le zero m keys le = refl
@@ -46,13 +47,16 @@ take-take-le (suc n) (suc m) [] le = refl
 take-take-le (suc n) (suc m) (k ∷ keys) le = ap (λ (l : List ℕ). k ∷ l) (take-take-le n m keys (omega arith))
 
 pub has-take : (k n : ℕ) (keys : List ℕ) → has k keys ≡ false → has k (take n keys) ≡ false
-has-take k n keys absent = let whole : has k (take n keys ++ drop n keys) ≡ false = ap (has k) (take-append-drop n keys) ∙ absent in
-    let parts : has k (take n keys ++ drop n keys) ≡ (has k (take n keys) || has k (drop n keys)) = list_any-append (λ x. x == k) (take n keys) (drop n keys) in
+has-take k n keys absent = let whole : has k (take n keys ++ drop n keys) ≡ false =
+    ap (has k) (take-append-drop n keys) ∙ absent in
+    let parts : has k (take n keys ++ drop n keys) ≡ (has k (take n keys) || has k (drop n keys)) =
+    list_any-append (λ x. x == k) (take n keys) (drop n keys) in
     grind (arith, nat_tests)
 
 pub length-without_key-le : (k : ℕ) (keys : List ℕ) → length (without_key k keys) ≤ length keys
 length-without_key-le k [] = omega arith
-length-without_key-le k (x ∷ keys) = let rest : length (without_key k keys) ≤ length keys = length-without_key-le k keys in grind (arith, nat_tests)
+length-without_key-le k (x ∷ keys) = let rest : length (without_key k keys) ≤ length keys =
+    length-without_key-le k keys in grind (arith, nat_tests)
 
 -- a key that is there leaves a shorter list
 pub length-without_key : (k : ℕ) (keys : List ℕ) → has k keys ≡ true → length (without_key k keys) < length keys
@@ -65,18 +69,21 @@ length-without_key k (x ∷ keys) there =
 -- Different keys
 
 has-take_fewer : (k n m : ℕ) (keys : List ℕ) → n ≤ m → has k (take m keys) ≡ false → has k (take n keys) ≡ false
-has-take_fewer k n m keys le absent = subst (λ (l : List ℕ). has k l ≡ false) (take-take-le n m keys le) (has-take k n (take m keys) absent)
+has-take_fewer k n m keys le absent =
+    subst (λ (l : List ℕ). has k l ≡ false) (take-take-le n m keys le) (has-take k n (take m keys) absent)
 
 -- fewer of the first keys are different too
 pub different_fewer : (n m : ℕ) (keys : List ℕ) → n ≤ m → AreDifferent (take m keys) → AreDifferent (take n keys)
 different_fewer zero m keys le different = tt
 different_fewer (suc n) zero keys le different = absurd (omega arith)
 different_fewer (suc n) (suc m) [] le different = tt
-different_fewer (suc n) (suc m) (k ∷ keys) le different = (has-take_fewer k n m keys (omega arith) different.0, different_fewer n m keys (omega arith) different.1)
+different_fewer (suc n) (suc m) (k ∷ keys) le different =
+    (has-take_fewer k n m keys (omega arith) different.0, different_fewer n m keys (omega arith) different.1)
 
 has-without_key_absent : (q k : ℕ) (keys : List ℕ) → has q keys ≡ false → has q (without_key k keys) ≡ false
 has-without_key_absent q k [] absent = refl
-has-without_key_absent q k (x ∷ keys) absent = let rest : has q keys ≡ false → has q (without_key k keys) ≡ false = has-without_key_absent q k keys in grind (arith, nat_tests)
+has-without_key_absent q k (x ∷ keys) absent = let rest : has q keys ≡ false → has q (without_key k keys) ≡ false =
+    has-without_key_absent q k keys in grind (arith, nat_tests)
 
 pub different_without_key : (k : ℕ) (keys : List ℕ) → AreDifferent keys → AreDifferent (without_key k keys)
 different_without_key k [] different = tt
@@ -86,7 +93,8 @@ different_without_key k (x ∷ keys) different =
     (λ _. different_without_key k keys different.1)
 
 -- taking away the one place of a key takes the key away
-pub remove-is_without_key : (i k : ℕ) (keys : List ℕ) → AreDifferent keys → i < length keys → get_or keys i 0 ≡ k → remove keys i ≡ without_key k keys
+pub remove-is_without_key : (i k : ℕ) (keys : List ℕ) → AreDifferent keys → i < length keys → get_or keys i 0 ≡ k
+    → remove keys i ≡ without_key k keys
 remove-is_without_key i k [] different inside here = absurd (omega arith)
 remove-is_without_key zero k (x ∷ keys) different inside here =
     let absent : has k keys ≡ false = subst (λ n. has n keys ≡ false) here different.0 in
@@ -94,41 +102,49 @@ remove-is_without_key zero k (x ∷ keys) different inside here =
     grind (arith, nat_tests)
 remove-is_without_key (suc i) k (x ∷ keys) different inside here =
     let rest : remove keys i ≡ without_key k keys = remove-is_without_key i k keys different.1 (omega arith) here in
-    let there : has k keys ≡ true = list_any_at (λ y. y == k) keys i 0 (omega arith) (eq-eqb (get_or keys i 0) k here) in
+    let there : has k keys ≡ true =
+    list_any_at (λ y. y == k) keys i 0 (omega arith) (eq-eqb (get_or keys i 0) k here) in
     grind (arith, nat_tests)
 
 absent_from : (k i : ℕ) (keys : List ℕ) → position_from (λ x. x == k) i keys ≡ None → has k keys ≡ false
 absent_from k i [] none = refl
-absent_from k i (x ∷ keys) none = let rest : position_from (λ y. y == k) (i + 1) keys ≡ None → has k keys ≡ false = absent_from k (i + 1) keys in elim (cases_eq x k) [
-  | inl same ↦ absurd (grind (arith, nat_tests))
-  | inr differs ↦ grind (arith, nat_tests)
-]
+absent_from k i (x ∷ keys) none = let rest : position_from (λ y. y == k) (i + 1) keys ≡ None → has k keys ≡ false =
+    absent_from k (i + 1) keys in elim (cases_eq x k) [
+      | inl same ↦ absurd (grind (arith, nat_tests))
+      | inr differs ↦ grind (arith, nat_tests)
+    ]
 
 -- a key that has no place isn't there
 pub absent_from_position : (k : ℕ) (keys : List ℕ) → position (λ x. x == k) keys ≡ None → has k keys ≡ false
 absent_from_position k keys none = absent_from k 0 keys (sym (position_from-zero (λ x. x == k) keys) ∙ none)
 
-take-remove : (i n : ℕ) (xs ys : List ℕ) → i ≤ n → n < length xs → take n (remove xs i ++ ys) ≡ remove (take (suc n) xs) i
+take-remove : (i n : ℕ) (xs ys : List ℕ) → i ≤ n → n < length xs
+    → take n (remove xs i ++ ys) ≡ remove (take (suc n) xs) i
 take-remove i n [] ys le few = absurd (omega arith)
 take-remove zero n (x ∷ xs) ys le few = take-append-le n xs ys (omega arith)
 take-remove (suc i) zero (x ∷ xs) ys le few = absurd (omega arith)
-take-remove (suc i) (suc n) (x ∷ xs) ys le few = ap (λ (l : List ℕ). x ∷ l) (take-remove i n xs ys (omega arith) (omega arith))
+take-remove (suc i) (suc n) (x ∷ xs) ys le few =
+    ap (λ (l : List ℕ). x ∷ l) (take-remove i n xs ys (omega arith) (omega arith))
 
 -- An array of which the first are the list
 
 -- where the rest from the place of a key on is turned by one, one fewer of the array are the list without the key
-pub released_list : (array part : List ℕ) (count place k : ℕ) → length array ≡ 64 → count ≤ 64 → position (λ x. x == k) (take count array) ≡ Some place → AreDifferent (take count array)
-    → part ≡ drop 1 (mid_of place (64 - place) array) ++ take 1 (mid_of place (64 - place) array) → take (count - 1) (put_mid place (64 - place) array part) ≡ without_key k (take count array)
+pub released_list : (array part : List ℕ) (count place k : ℕ) → length array ≡ 64 → count ≤ 64
+    → position (λ x. x == k) (take count array) ≡ Some place → AreDifferent (take count array)
+    → part ≡ drop 1 (mid_of place (64 - place) array) ++ take 1 (mid_of place (64 - place) array)
+    → take (count - 1) (put_mid place (64 - place) array part) ≡ without_key k (take count array)
 released_list array part count place k long few found different turned =
     let at = position-Some (λ x. x == k) (take count array) place 0 found in
     let length_is : length (take count array) ≡ count = length-take-le count array (omega arith) in
     let inside : place < count = omega (arith, at.0) in
     let one : suc (count - 1) ≡ count = omega arith in
-    let whole : put_mid place (64 - place) array part ≡ remove array place ++ (get_or array place 0 ∷ []) = put_mid-rotated place (64 - place) array part 0 (omega arith) (omega arith) turned in
+    let whole : put_mid place (64 - place) array part ≡ remove array place ++ (get_or array place 0 ∷ []) =
+    put_mid-rotated place (64 - place) array part 0 (omega arith) (omega arith) turned in
     ap (take (count - 1)) whole
     ∙ take-remove place (count - 1) array (get_or array place 0 ∷ []) (omega arith) (omega arith)
     ∙ ap (λ n. remove (take n array) place) one
-    ∙ remove-is_without_key place k (take count array) different at.0 (eqb-true (get_or (take count array) place 0) k at.1)
+    ∙ remove-is_without_key place k (take count array) different at.0
+    (eqb-true (get_or (take count array) place 0) k at.1)
 
 -- The number
 
@@ -144,33 +160,42 @@ still_reached q k (Some n) there = omega arith
 
 pub has-with_room : (k : ℕ) (d : Debts) → has k d.keys ≡ false → has k (with_room d).keys ≡ false
 has-with_room k d absent =
-    cond_both (nat_lt (length d.keys) 64) d (record { keys = take (length d.keys - 1) d.keys; from = lowered (slice_index d.keys (length d.keys - 1)) d.from }) (λ (e : Debts). has k e.keys ≡ false)
+    cond_both (nat_lt (length d.keys) 64) d (record {
+      keys = take (length d.keys - 1) d.keys;
+      from = lowered (slice_index d.keys (length d.keys - 1)) d.from;
+    }) (λ (e : Debts). has k e.keys ≡ false)
     (λ _. absent) (λ _. has-take k (length d.keys - 1) d.keys absent)
 
 pub charged_is_owed : (k : ℕ) (d : Debts) → IsOwed k (charged k d)
 charged_is_owed k d =
     cond_both (has k d.keys) d _ (λ (e : Debts). IsOwed k e) (λ there. inl there)
-    (λ absent. cond_both (nat_lt (length d.keys) 64) (record { keys = k ∷ d.keys; from = d.from }) (record { keys = d.keys; from = lowered k d.from }) (λ (e : Debts). IsOwed k e)
+    (λ absent. cond_both (nat_lt (length d.keys) 64) (record { keys = k ∷ d.keys; from = d.from })
+    (record { keys = d.keys; from = lowered k d.from }) (λ (e : Debts). IsOwed k e)
     (λ room. inl (has-front k d.keys)) (λ full. inr (reached k d.from)))
 
 pub owed_after_charge : (q k : ℕ) (d : Debts) → IsOwed q d → IsOwed q (charged k d)
 owed_after_charge q k d owed =
     cond_both (has k d.keys) d _ (λ (e : Debts). IsOwed q e) (λ there. owed)
-    (λ absent. cond_both (nat_lt (length d.keys) 64) (record { keys = k ∷ d.keys; from = d.from }) (record { keys = d.keys; from = lowered k d.from }) (λ (e : Debts). IsOwed q e)
+    (λ absent. cond_both (nat_lt (length d.keys) 64) (record { keys = k ∷ d.keys; from = d.from })
+    (record { keys = d.keys; from = lowered k d.from }) (λ (e : Debts). IsOwed q e)
     (λ room. ⊎_elim (λ there. inl (has-behind q k d.keys there)) inr owed)
     (λ full. ⊎_elim inl (λ from. inr (still_reached q k d.from from)) owed))
 
 pub first_is_owed : (k : ℕ) (d : Debts) → IsOwed k (put_in_front k d)
 first_is_owed k d =
-    cond_both (has k d.keys) (record { keys = k ∷ without_key k d.keys; from = d.from }) (record { keys = k ∷ (with_room d).keys; from = (with_room d).from }) (λ (e : Debts). IsOwed k e)
+    cond_both (has k d.keys) (record { keys = k ∷ without_key k d.keys; from = d.from })
+    (record { keys = k ∷ (with_room d).keys; from = (with_room d).from }) (λ (e : Debts). IsOwed k e)
     (λ there. inl (has-front k (without_key k d.keys))) (λ absent. inl (has-front k (with_room d).keys))
 
 -- a key of a list is the last one, or stands before it
-has-last : (q n : ℕ) (keys : List ℕ) → length keys ≡ suc n → has q keys ≡ true → (has q (take n keys) ≡ true) ⊎ (slice_index keys n ≡ q)
+has-last : (q n : ℕ) (keys : List ℕ) → length keys ≡ suc n → has q keys ≡ true
+    → (has q (take n keys) ≡ true) ⊎ (slice_index keys n ≡ q)
 has-last q n keys long there =
     let last : ℕ = get_or keys n 0 in
-    let whole : keys ≡ take n keys ++ (last ∷ []) = sym (take-length keys) ∙ ap (λ m. take m keys) long ∙ take-suc keys n 0 (omega arith) in
-    let parts : has q (take n keys ++ (last ∷ [])) ≡ (has q (take n keys) || has q (last ∷ [])) = list_any-append (λ x. x == q) (take n keys) (last ∷ []) in
+    let whole : keys ≡ take n keys ++ (last ∷ []) = sym (take-length keys) ∙ ap (λ m. take m keys) long
+    ∙ take-suc keys n 0 (omega arith) in
+    let parts : has q (take n keys ++ (last ∷ [])) ≡ (has q (take n keys) || has q (last ∷ [])) =
+    list_any-append (λ x. x == q) (take n keys) (last ∷ []) in
     let some : (has q (take n keys) || has q (last ∷ [])) ≡ true = sym parts ∙ sym (ap (has q) whole) ∙ there in
     elim (cases_eq last q) [
       | inl same ↦ inr same
@@ -180,17 +205,25 @@ has-last q n keys long there =
 owed_with_room : (q : ℕ) (d : Debts) → IsOwed q d → IsOwed q (with_room d)
 owed_with_room q d owed =
     let last : ℕ = length d.keys - 1 in
-    cond_both (nat_lt (length d.keys) 64) d (record { keys = take last d.keys; from = lowered (slice_index d.keys last) d.from }) (λ (e : Debts). IsOwed q e) (λ room. owed)
+    cond_both (nat_lt (length d.keys) 64) d
+    (record { keys = take last d.keys; from = lowered (slice_index d.keys last) d.from })
+    (λ (e : Debts). IsOwed q e) (λ room. owed)
     (λ full. let many : 64 ≤ length d.keys = ltb-false (length d.keys) 64 full in ⊎_elim
-    (λ there. ⊎_elim inl (λ same. inr (subst (λ k. IsSomeAnd (lowered k d.from) (λ n. n ≤ q)) (sym same) (reached q d.from))) (has-last q last d.keys (omega arith) there))
+    (λ there. ⊎_elim inl
+    (λ same. inr (subst (λ k. IsSomeAnd (lowered k d.from) (λ n. n ≤ q)) (sym same) (reached q d.from)))
+    (has-last q last d.keys (omega arith) there))
     (λ from. inr (still_reached q (slice_index d.keys last) d.from from)) owed)
 
 pub owed_after_put_first : (q k : ℕ) (d : Debts) → IsOwed q d → IsOwed q (put_in_front k d)
 owed_after_put_first q k d owed =
-    cond_both (has k d.keys) (record { keys = k ∷ without_key k d.keys; from = d.from }) (record { keys = k ∷ (with_room d).keys; from = (with_room d).from }) (λ (e : Debts). IsOwed q e)
+    cond_both (has k d.keys) (record { keys = k ∷ without_key k d.keys; from = d.from })
+    (record { keys = k ∷ (with_room d).keys; from = (with_room d).from }) (λ (e : Debts). IsOwed q e)
     (λ there. elim (cases_eq q k) [
-      | inl same ↦ inl (subst (λ n. has n (k ∷ without_key k d.keys) ≡ true) (sym same) (has-front k (without_key k d.keys)))
-      | inr differs ↦ ⊎_elim (λ in_list. inl (has-behind q k (without_key k d.keys) (has-without_other q k d.keys differs ∙ in_list))) inr owed
+      | inl same ↦ inl (subst (λ n. has n (k ∷ without_key k d.keys) ≡ true) (sym same)
+          (has-front k (without_key k d.keys)))
+      | inr differs ↦ ⊎_elim
+          (λ in_list. inl (has-behind q k (without_key k d.keys) (has-without_other q k d.keys differs ∙ in_list))) inr
+          owed
     ])
     (λ absent. ⊎_elim (λ in_list. inl (has-behind q k (with_room d).keys in_list)) inr (owed_with_room q d owed))
 

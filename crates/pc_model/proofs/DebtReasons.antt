@@ -19,41 +19,59 @@ has-of_without q k keys there = ⊎_elim
     (λ differs. sym (has-without_other q k keys differs) ∙ there) (cases_eq q k)
 
 has-of_room : (q : ℕ) (d : Debts) → has q (with_room d).keys ≡ true → has q d.keys ≡ true
-has-of_room q d there = ⊎_elim (λ is. is) (λ absent. let none : has q (with_room d).keys ≡ false = has-with_room q d absent in absurd (cc)) (cases_Bool (has q d.keys))
+has-of_room q d there =
+    ⊎_elim (λ is. is) (λ absent. let none : has q (with_room d).keys ≡ false = has-with_room q d absent in
+    absurd (cc)) (cases_Bool (has q d.keys))
 
-lowered-cases : (q k : ℕ) (from : Option ℕ) → IsSomeAnd (lowered k from) (λ n. n ≤ q) → IsSomeAnd from (λ n. n ≤ q) ⊎ (k ≤ q)
+lowered-cases : (q k : ℕ) (from : Option ℕ) → IsSomeAnd (lowered k from) (λ n. n ≤ q)
+    → IsSomeAnd from (λ n. n ≤ q) ⊎ (k ≤ q)
 lowered-cases q k None low = inr low
 lowered-cases q k (Some n) low = ⊎_elim (λ lt. inr (omega arith)) inl (cases_lt q n)
 
 reached_room : (q : ℕ) (d : Debts) → IsSomeAnd (with_room d).from (λ n. n ≤ q) → IsReached q d ⊎ HasKeyTo q d.keys
 reached_room q d =
     let last : ℕ = length d.keys - 1 in
-    cond_both (nat_lt (length d.keys) 64) d (record { keys = take last d.keys; from = lowered (slice_index d.keys last) d.from }) (λ (e : Debts). IsSomeAnd e.from (λ n. n ≤ q) → IsReached q d ⊎ HasKeyTo q d.keys)
+    cond_both (nat_lt (length d.keys) 64) d
+    (record { keys = take last d.keys; from = lowered (slice_index d.keys last) d.from })
+    (λ (e : Debts). IsSomeAnd e.from (λ n. n ≤ q) → IsReached q d ⊎ HasKeyTo q d.keys)
     (λ room reached. inl reached)
     (λ full reached. let many : 64 ≤ length d.keys = ltb-false (length d.keys) 64 full in
-    let there : has (slice_index d.keys last) d.keys ≡ true = list_any_at (λ y. y == slice_index d.keys last) d.keys last 0 (omega arith) (eq-eqb (get_or d.keys last 0) (slice_index d.keys last) refl) in
-    ⊎_elim inl (λ le. inr (slice_index d.keys last, there, le)) (lowered-cases q (slice_index d.keys last) d.from reached))
+    let there : has (slice_index d.keys last) d.keys ≡ true =
+    list_any_at (λ y. y == slice_index d.keys last) d.keys last 0 (omega arith)
+    (eq-eqb (get_or d.keys last 0) (slice_index d.keys last) refl) in
+    ⊎_elim inl (λ le. inr (slice_index d.keys last, there, le))
+    (lowered-cases q (slice_index d.keys last) d.from reached))
 
 after_charge : (q k : ℕ) (d : Debts) → IsOwed q (charged k d) → IsOwed q d ⊎ (k ≤ q)
 after_charge q k d =
     cond_both (has k d.keys) d _ (λ (e : Debts). IsOwed q e → IsOwed q d ⊎ (k ≤ q)) (λ there owed. inl owed)
-    (λ absent. cond_both (nat_lt (length d.keys) 64) (record { keys = k ∷ d.keys; from = d.from }) (record { keys = d.keys; from = lowered k d.from }) (λ (e : Debts). IsOwed q e → IsOwed q d ⊎ (k ≤ q))
-    (λ room owed. ⊎_elim (λ there. ⊎_elim (λ same. inr (omega (arith, same))) (λ behind. inl (inl behind)) (has-cases q k d.keys there)) (λ reached. inl (inr reached)) owed)
-    (λ full owed. ⊎_elim (λ there. inl (inl there)) (λ low. ⊎_elim (λ reached. inl (inr reached)) inr (lowered-cases q k d.from low)) owed))
+    (λ absent. cond_both (nat_lt (length d.keys) 64) (record { keys = k ∷ d.keys; from = d.from })
+    (record { keys = d.keys; from = lowered k d.from }) (λ (e : Debts). IsOwed q e → IsOwed q d ⊎ (k ≤ q))
+    (λ room owed. ⊎_elim (λ there. ⊎_elim (λ same. inr (omega (arith, same))) (λ behind. inl (inl behind))
+    (has-cases q k d.keys there)) (λ reached. inl (inr reached)) owed)
+    (λ full owed. ⊎_elim (λ there. inl (inl there))
+    (λ low. ⊎_elim (λ reached. inl (inr reached)) inr (lowered-cases q k d.from low)) owed))
 
 after_put_first : (q k : ℕ) (d : Debts) → IsOwed q (put_in_front k d) → (q ≡ k) ⊎ (IsReached q d ⊎ HasKeyTo q d.keys)
 after_put_first q k d =
-    cond_both (has k d.keys) (record { keys = k ∷ without_key k d.keys; from = d.from }) (record { keys = k ∷ (with_room d).keys; from = (with_room d).from })
+    cond_both (has k d.keys) (record { keys = k ∷ without_key k d.keys; from = d.from })
+    (record { keys = k ∷ (with_room d).keys; from = (with_room d).from })
     (λ (e : Debts). IsOwed q e → (q ≡ k) ⊎ (IsReached q d ⊎ HasKeyTo q d.keys))
-    (λ there owed. ⊎_elim (λ listed. ⊎_elim inl (λ behind. inr (inr (q, has-of_without q k d.keys behind, omega arith))) (has-cases q k (without_key k d.keys) listed)) (λ reached. inr (inl reached)) owed)
-    (λ absent owed. ⊎_elim (λ listed. ⊎_elim inl (λ behind. inr (inr (q, has-of_room q d behind, omega arith))) (has-cases q k (with_room d).keys listed)) (λ reached. inr (reached_room q d reached)) owed)
+    (λ there owed. ⊎_elim
+    (λ listed. ⊎_elim inl (λ behind. inr (inr (q, has-of_without q k d.keys behind, omega arith)))
+    (has-cases q k (without_key k d.keys) listed)) (λ reached. inr (inl reached)) owed)
+    (λ absent owed. ⊎_elim (λ listed. ⊎_elim inl (λ behind. inr (inr (q, has-of_room q d behind, omega arith)))
+    (has-cases q k (with_room d).keys listed)) (λ reached. inr (reached_room q d reached)) owed)
 
 after_release : (k : ℕ) (d : Debts) → (IsReached k d → ⊥) → IsOwed k (released k d) → ⊥
-after_release k d unreached owed = ⊎_elim (λ there. let none : has k (without_key k d.keys) ≡ false = has-without_key k d.keys in absurd (cc)) unreached owed
+after_release k d unreached owed =
+    ⊎_elim (λ there. let none : has k (without_key k d.keys) ≡ false = has-without_key k d.keys in
+    absurd (cc)) unreached owed
 
 put_first_is_first : (k : ℕ) (d : Debts) → first_owed (put_in_front k d).keys (put_in_front k d).from ≡ Some (Key k)
 put_first_is_first k d =
-    cond_both (has k d.keys) (record { keys = k ∷ without_key k d.keys; from = d.from }) (record { keys = k ∷ (with_room d).keys; from = (with_room d).from })
+    cond_both (has k d.keys) (record { keys = k ∷ without_key k d.keys; from = d.from })
+    (record { keys = k ∷ (with_room d).keys; from = (with_room d).from })
     (λ (e : Debts). first_owed e.keys e.from ≡ Some (Key k)) (λ there. refl) (λ absent. refl)
 
 settles : (s : Settle) (d : Debts) → IsSettled s d (settled s d)

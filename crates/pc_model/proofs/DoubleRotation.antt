@@ -170,7 +170,8 @@ module _ (slots : ℕ) (c : Cells) (ps : Pairs) (s : IsSearchTree balanced slots
 
   below_inner : (m : ℕ) → IsIn m near_in ⊎ IsIn m far_in → IsBelow m
   below_inner m i =
-      let within : IsIn m inner = ⊎_elim (in_near m g near_in far_in side) (in_far m g near_in far_in side) i in record {
+      let within : IsIn m inner = ⊎_elim (in_near m g near_in far_in side) (in_far m g near_in far_in side) i in
+      record {
         in_whole = inner_in_whole m within;
         not_x = lower_not_x m (inner_in_lower m within);
         not_y = inner_not_y m within;

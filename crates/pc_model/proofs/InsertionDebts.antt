@@ -30,7 +30,8 @@ module _ (slots : ℕ) (c : Cells) (ps : Pairs) (s : IsSearchTree balanced slots
           (λ e. absurd (out (inr (inl e))));
       parity = λ m out. hung.parity m (λ e. out (inl e));
       heights = λ m i is even. ⊎_elim
-          (λ e. let was : c leaf Version % 2 ≡ 0 = subst (λ (x : ℕ). IsEven (c x Version)) e even in absurd (omega arith))
+          (λ e. let was : c leaf Version % 2 ≡ 0 = subst (λ (x : ℕ). IsEven (c x Version)) e even in
+          absurd (omega arith))
           (λ j. ⊎_elim
           (λ e. inl (subst (λ (x : ℕ). c' x Height ≡ c x Height) (sym e)
           (above_stays Height (λ d. cc) (link_alone side h.link).height)))

@@ -1,6 +1,7 @@
 -- A key of a search tree has one node, so that a node in balance keeps its key out of debt; and where no
 -- key is in debt from a number on, by the nearest key.
-use Rattle.std.proofs.Common.{◌≡◌, ℕ, ◌+◌, ◌≤◌, ◌<◌, ◌==◌, inl, inr, ⊎_elim, [], ◌∷◌, Some, None, sym, ◌∙◌, subst, arith}
+use Rattle.std.proofs.Common.{◌≡◌, ℕ, ◌+◌, ◌≤◌, ◌<◌, ◌==◌, inl, inr, ⊎_elim, [], ◌∷◌, Some, None, sym, ◌∙◌, subst}
+use Rattle.std.proofs.Common.{arith}
 use Rattle.std.proofs.lemmas.Bool.{cases_eq, cases_lt, cond-true, eq-eqb}
 use Rattle.pc_model.specs.declared.cell.Field.TheVariants.{Version, Key}
 use Rattle.pc_model.specs.Map.{Pairs, RisesFrom, IsRising, HasKey, value_at, ceil_of}

@@ -290,7 +290,8 @@ module _ (slots : ℕ) (c : Cells) (ps : Pairs) (s : IsSearchTree balanced slots
         (λ d. not_above x x_in_whole (sym d ∙ e)) (λ d. not_above y y_in_whole (sym d ∙ e)) (λ _ d. cc)))
         (λ j. inr (⊎_elim
         (λ e. inl ((λ d. c (e d) Parent) ∙ upper_there.node.of_kind.0))
-        (λ j'. ⊎_elim (λ e. inr (inl ((λ d. c (e d) Parent) ∙ lower_there.node.of_kind.0))) (λ no. absurd no) j') j)) i;
+        (λ j'. ⊎_elim (λ e. inr (inl ((λ d. c (e d) Parent) ∙ lower_there.node.of_kind.0))) (λ no. absurd no) j')
+        j)) i;
   }
 
   rotated_brings : (charged : List ℕ) → IsCharged charged c above → IsTrue (has (c x Key) charged)

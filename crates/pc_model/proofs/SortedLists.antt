@@ -1,8 +1,11 @@
 -- Sorted lists of pairs, in parts: what each call of the map does where a list is cut into what lies
 -- below a key, what may hold it and what lies above it.
-use Rattle.std.proofs.Common.{◌≡◌, ℕ, ◌+◌, ◌<◌, ◌≤◌, ◌==◌, ◌⊎◌, nat_lt, nat_le, cond, Bool, true, false, [], ◌∷◌, ◌++◌, Option, Some, None, refl, ap, sym, inl, inr, ◌∙◌, arith}
-use Rattle.std.proofs.lemmas.Bool.{cond-true, cond-false, eq-eqb, ne_eqb, lt-ltb, le-ltb, le-leb, lt-leb, ltb-true, ltb-false, eqb-true, eqb-false, cond_both, cases_eq}
-use Rattle.pc_model.specs.Map.{Pairs, RisesFrom, IsRising, AreBelow, AreAbove, HasKey, AreSmall, value_at, put, without, ceil_of, floor_of, later, first_of, last_of, found_or}
+use Rattle.std.proofs.Common.{◌≡◌, ℕ, ◌+◌, ◌<◌, ◌≤◌, ◌==◌, ◌⊎◌, nat_lt, nat_le, cond, Bool, true, false, [], ◌∷◌}
+use Rattle.std.proofs.Common.{◌++◌, Option, Some, None, refl, ap, sym, inl, inr, ◌∙◌, arith}
+use Rattle.std.proofs.lemmas.Bool.{cond-true, cond-false, eq-eqb, ne_eqb, lt-ltb, le-ltb, le-leb, lt-leb, ltb-true}
+use Rattle.std.proofs.lemmas.Bool.{ltb-false, eqb-true, eqb-false, cond_both, cases_eq}
+use Rattle.pc_model.specs.Map.{Pairs, RisesFrom, IsRising, AreBelow, AreAbove, HasKey, AreSmall, value_at, put}
+use Rattle.pc_model.specs.Map.{without, ceil_of, floor_of, later, first_of, last_of, found_or}
 
 -- One pair in front
 
@@ -16,10 +19,12 @@ pub put-front : (k v : ℕ) (p : ℕ × ℕ) (ps : Pairs) → k < p.0 → put k 
 put-front k v p ps less = cond-true (nat_lt k p.0) _ _ (lt-ltb k p.0 less)
 
 pub put-found : (k v w : ℕ) (rest : Pairs) → put k v ((k, w) ∷ rest) ≡ (k, v) ∷ rest
-put-found k v w rest = cond-false (nat_lt k k) _ _ (le-ltb k k (omega arith)) ∙ cond-true (k == k) _ _ (eq-eqb k k refl)
+put-found k v w rest = cond-false (nat_lt k k) _ _ (le-ltb k k (omega arith))
+    ∙ cond-true (k == k) _ _ (eq-eqb k k refl)
 
 pub put-skip : (k v : ℕ) (p : ℕ × ℕ) (ps : Pairs) → p.0 < k → put k v (p ∷ ps) ≡ p ∷ put k v ps
-put-skip k v p ps less = cond-false (nat_lt k p.0) _ _ (le-ltb k p.0 (omega arith)) ∙ cond-false (k == p.0) _ _ (ne_eqb k p.0 (omega arith))
+put-skip k v p ps less = cond-false (nat_lt k p.0) _ _ (le-ltb k p.0 (omega arith))
+    ∙ cond-false (k == p.0) _ _ (ne_eqb k p.0 (omega arith))
 
 pub without-same : (k : ℕ) (p : ℕ × ℕ) (ps : Pairs) → k ≡ p.0 → without k (p ∷ ps) ≡ ps
 without-same k p ps same = cond-true (k == p.0) _ _ (eq-eqb k p.0 same)
@@ -72,16 +77,20 @@ value_at-left k (p ∷ ps) after above = ap (λ o. cond (k == p.0) (Some p.1) o)
 
 pub value_at-right : (k : ℕ) (before ps : Pairs) → AreBelow k before → value_at k (before ++ ps) ≡ value_at k ps
 value_at-right k [] ps below = refl
-value_at-right k (p ∷ before) ps below = value_at-skip k p (before ++ ps) (λ same. omega (arith, below.0)) ∙ value_at-right k before ps below.1
+value_at-right k (p ∷ before) ps below = value_at-skip k p (before ++ ps) (λ same. omega (arith, below.0))
+    ∙ value_at-right k before ps below.1
 
-pub value_at-between : (k : ℕ) (before ps after : Pairs) → AreBelow k before → AreAbove k after → value_at k (before ++ (ps ++ after)) ≡ value_at k ps
-value_at-between k before ps after below above = value_at-right k before (ps ++ after) below ∙ value_at-left k ps after above
+pub value_at-between : (k : ℕ) (before ps after : Pairs) → AreBelow k before → AreAbove k after
+    → value_at k (before ++ (ps ++ after)) ≡ value_at k ps
+value_at-between k before ps after below above = value_at-right k before (ps ++ after) below
+    ∙ value_at-left k ps after above
 
 put-above : (k v : ℕ) (after : Pairs) → AreAbove k after → put k v after ≡ (k, v) ∷ after
 put-above k v [] above = refl
 put-above k v (p ∷ after) above = put-front k v p after above.0
 
-choice_before : (first second : Bool) (a b c whole after : Pairs) → whole ≡ c ++ after → cond first (a ++ after) (cond second (b ++ after) whole) ≡ cond first a (cond second b c) ++ after
+choice_before : (first second : Bool) (a b c whole after : Pairs) → whole ≡ c ++ after
+    → cond first (a ++ after) (cond second (b ++ after) whole) ≡ cond first a (cond second b c) ++ after
 choice_before true second a b c whole after same = refl
 choice_before false true a b c whole after same = refl
 choice_before false false a b c whole after same = same
@@ -89,24 +98,29 @@ choice_before false false a b c whole after same = same
 pub put-left : (k v : ℕ) (ps after : Pairs) → AreAbove k after → put k v (ps ++ after) ≡ put k v ps ++ after
 put-left k v [] after above = put-above k v after above
 put-left k v (p ∷ ps) after above =
-    choice_before (nat_lt k p.0) (k == p.0) ((k, v) ∷ p ∷ ps) ((k, v) ∷ ps) (p ∷ put k v ps) (p ∷ put k v (ps ++ after)) after
+    choice_before (nat_lt k p.0) (k == p.0) ((k, v) ∷ p ∷ ps) ((k, v) ∷ ps) (p ∷ put k v ps)
+    (p ∷ put k v (ps ++ after)) after
     (ap (λ (qs : Pairs). p ∷ qs) (put-left k v ps after above))
 
 pub put-right : (k v : ℕ) (before ps : Pairs) → AreBelow k before → put k v (before ++ ps) ≡ before ++ put k v ps
 put-right k v [] ps below = refl
-put-right k v (p ∷ before) ps below = put-skip k v p (before ++ ps) below.0 ∙ ap (λ (qs : Pairs). p ∷ qs) (put-right k v before ps below.1)
+put-right k v (p ∷ before) ps below = put-skip k v p (before ++ ps) below.0
+    ∙ ap (λ (qs : Pairs). p ∷ qs) (put-right k v before ps below.1)
 
-pub put-between : (k v : ℕ) (before ps after : Pairs) → AreBelow k before → AreAbove k after → put k v (before ++ (ps ++ after)) ≡ before ++ (put k v ps ++ after)
+pub put-between : (k v : ℕ) (before ps after : Pairs) → AreBelow k before → AreAbove k after
+    → put k v (before ++ (ps ++ after)) ≡ before ++ (put k v ps ++ after)
 put-between k v before ps after below above =
     put-right k v before (ps ++ after) below ∙ ap (λ (qs : Pairs). before ++ qs) (put-left k v ps after above)
 
 without-below : (k : ℕ) (ps : Pairs) → AreBelow k ps → without k ps ≡ ps
 without-below k [] below = refl
-without-below k (p ∷ ps) below = without-skip k p ps (λ same. omega (arith, below.0)) ∙ ap (λ (qs : Pairs). p ∷ qs) (without-below k ps below.1)
+without-below k (p ∷ ps) below = without-skip k p ps (λ same. omega (arith, below.0))
+    ∙ ap (λ (qs : Pairs). p ∷ qs) (without-below k ps below.1)
 
 without-above : (k : ℕ) (ps : Pairs) → AreAbove k ps → without k ps ≡ ps
 without-above k [] above = refl
-without-above k (p ∷ ps) above = without-skip k p ps (λ same. omega (arith, above.0)) ∙ ap (λ (qs : Pairs). p ∷ qs) (without-above k ps above.1)
+without-above k (p ∷ ps) above = without-skip k p ps (λ same. omega (arith, above.0))
+    ∙ ap (λ (qs : Pairs). p ∷ qs) (without-above k ps above.1)
 
 pub without-left : (k : ℕ) (ps after : Pairs) → AreAbove k after → without k (ps ++ after) ≡ without k ps ++ after
 without-left k [] after above = without-above k after above
@@ -117,9 +131,11 @@ without-left k (p ∷ ps) after above =
 pub without-right : (k : ℕ) (before ps : Pairs) → AreBelow k before → without k (before ++ ps) ≡ before ++ without k ps
 without-right k [] ps below = refl
 without-right k (p ∷ before) ps below =
-    without-skip k p (before ++ ps) (λ same. omega (arith, below.0)) ∙ ap (λ (qs : Pairs). p ∷ qs) (without-right k before ps below.1)
+    without-skip k p (before ++ ps) (λ same. omega (arith, below.0))
+    ∙ ap (λ (qs : Pairs). p ∷ qs) (without-right k before ps below.1)
 
-pub without-between : (k : ℕ) (before ps after : Pairs) → AreBelow k before → AreAbove k after → without k (before ++ (ps ++ after)) ≡ before ++ (without k ps ++ after)
+pub without-between : (k : ℕ) (before ps after : Pairs) → AreBelow k before → AreAbove k after
+    → without k (before ++ (ps ++ after)) ≡ before ++ (without k ps ++ after)
 without-between k before ps after below above =
     without-right k before (ps ++ after) below ∙ ap (λ (qs : Pairs). before ++ qs) (without-left k ps after above)
 
@@ -137,7 +153,8 @@ pub ceil_of-between : (k : ℕ) (before ps : Pairs) → AreBelow k before → ce
 ceil_of-between k [] ps below = refl
 ceil_of-between k (p ∷ before) ps below = ceil_of-skip k p (before ++ ps) below.0 ∙ ceil_of-between k before ps below.1
 
-first_choice : (test : Bool) (p : ℕ × ℕ) (whole part other : Option (ℕ × ℕ)) → whole ≡ found_or part other → cond test (Some p) whole ≡ found_or (cond test (Some p) part) other
+first_choice : (test : Bool) (p : ℕ × ℕ) (whole part other : Option (ℕ × ℕ)) → whole ≡ found_or part other
+    → cond test (Some p) whole ≡ found_or (cond test (Some p) part) other
 first_choice true p whole part other same = refl
 first_choice false p whole part other same = same
 
@@ -151,9 +168,11 @@ ceil_of-above k [] above = refl
 ceil_of-above k (p ∷ ps) above = ceil_of-stop k p ps (omega (arith, above.0))
 
 -- the least key from k up is in the middle, or else it is the first one after
-pub ceil_of-between_both : (k : ℕ) (before ps after : Pairs) → AreBelow k before → AreAbove k after → ceil_of k (before ++ (ps ++ after)) ≡ found_or (ceil_of k ps) (first_of after)
+pub ceil_of-between_both : (k : ℕ) (before ps after : Pairs) → AreBelow k before → AreAbove k after
+    → ceil_of k (before ++ (ps ++ after)) ≡ found_or (ceil_of k ps) (first_of after)
 ceil_of-between_both k before ps after below above =
-    ceil_of-between k before (ps ++ after) below ∙ ceil_of-append k ps after ∙ ap (found_or (ceil_of k ps)) (ceil_of-above k after above)
+    ceil_of-between k before (ps ++ after) below ∙ ceil_of-append k ps after
+    ∙ ap (found_or (ceil_of k ps)) (ceil_of-above k after above)
 
 pub ceil_of-below : (k : ℕ) (ps : Pairs) → AreBelow k ps → ceil_of k ps ≡ None
 ceil_of-below k [] below = refl
@@ -171,7 +190,8 @@ floor_of-above k (p ∷ ps) above = floor_of-stop k p ps above.0
 
 pub floor_of-below : (k : ℕ) (ps : Pairs) → AreBelow k ps → floor_of k ps ≡ last_of ps
 floor_of-below k [] below = refl
-floor_of-below k (p ∷ ps) below = floor_of-take k p ps (omega (arith, below.0)) ∙ ap (later p) (floor_of-below k ps below.1)
+floor_of-below k (p ∷ ps) below = floor_of-take k p ps (omega (arith, below.0))
+    ∙ ap (later p) (floor_of-below k ps below.1)
 
 -- what lies above the key changes no floor
 pub floor_of-left : (k : ℕ) (ps after : Pairs) → AreAbove k after → floor_of k (ps ++ after) ≡ floor_of k ps
@@ -183,7 +203,8 @@ later_found p None other = refl
 later_found p (Some q) other = refl
 
 -- the greatest key down from k is in the back part, or else it is the last one of the front part
-pub floor_of-right : (k : ℕ) (before ps : Pairs) → AreBelow k before → floor_of k (before ++ ps) ≡ found_or (floor_of k ps) (last_of before)
+pub floor_of-right : (k : ℕ) (before ps : Pairs) → AreBelow k before
+    → floor_of k (before ++ ps) ≡ found_or (floor_of k ps) (last_of before)
 floor_of-right k [] ps below = found_or-None (floor_of k ps)
 floor_of-right k (p ∷ before) ps below =
     floor_of-take k p (before ++ ps) (omega (arith, below.0))
@@ -191,23 +212,31 @@ floor_of-right k (p ∷ before) ps below =
     ∙ later_found p (floor_of k ps) (last_of before)
 
 -- the greatest key down from k is in the middle, or else it is the last one before
-pub floor_of-between : (k : ℕ) (before ps after : Pairs) → AreBelow k before → AreAbove k after → floor_of k (before ++ (ps ++ after)) ≡ found_or (floor_of k ps) (last_of before)
+pub floor_of-between : (k : ℕ) (before ps after : Pairs) → AreBelow k before → AreAbove k after
+    → floor_of k (before ++ (ps ++ after)) ≡ found_or (floor_of k ps) (last_of before)
 floor_of-between k before ps after below above =
-    floor_of-right k before (ps ++ after) below ∙ ap (λ o. found_or o (last_of before)) (floor_of-left k ps after above)
+    floor_of-right k before (ps ++ after) below
+    ∙ ap (λ o. found_or o (last_of before)) (floor_of-left k ps after above)
 
 -- The nearest keys, at a pair with smaller keys before it and greater keys behind
 
 -- a pair from k up is the ceil, unless there is one before it
-pub ceil_of-front : (k : ℕ) (a : Pairs) (p : ℕ × ℕ) (b : Pairs) → k ≤ p.0 → ceil_of k (a ++ (p ∷ b)) ≡ found_or (ceil_of k a) (Some p)
+pub ceil_of-front : (k : ℕ) (a : Pairs) (p : ℕ × ℕ) (b : Pairs) → k ≤ p.0
+    → ceil_of k (a ++ (p ∷ b)) ≡ found_or (ceil_of k a) (Some p)
 ceil_of-front k a p b le = ceil_of-append k a (p ∷ b) ∙ ap (found_or (ceil_of k a)) (ceil_of-stop k p b le)
 
-pub ceil_of-back : (k : ℕ) (a : Pairs) (p : ℕ × ℕ) (b : Pairs) → AreBelow p.0 a → p.0 < k → ceil_of k (a ++ (p ∷ b)) ≡ ceil_of k b
-ceil_of-back k a p b below less = ceil_of-between k a (p ∷ b) (below_weaker p.0 k a (omega arith) below) ∙ ceil_of-skip k p b less
+pub ceil_of-back : (k : ℕ) (a : Pairs) (p : ℕ × ℕ) (b : Pairs) → AreBelow p.0 a → p.0 < k
+    → ceil_of k (a ++ (p ∷ b)) ≡ ceil_of k b
+ceil_of-back k a p b below less = ceil_of-between k a (p ∷ b) (below_weaker p.0 k a (omega arith) below)
+    ∙ ceil_of-skip k p b less
 
-pub ceil_of-here : (k : ℕ) (a : Pairs) (p : ℕ × ℕ) (b : Pairs) → AreBelow p.0 a → k ≡ p.0 → ceil_of k (a ++ (p ∷ b)) ≡ Some p
-ceil_of-here k a p b below same = ceil_of-between k a (p ∷ b) (below_weaker p.0 k a (omega arith) below) ∙ ceil_of-stop k p b (omega arith)
+pub ceil_of-here : (k : ℕ) (a : Pairs) (p : ℕ × ℕ) (b : Pairs) → AreBelow p.0 a → k ≡ p.0
+    → ceil_of k (a ++ (p ∷ b)) ≡ Some p
+ceil_of-here k a p b below same = ceil_of-between k a (p ∷ b) (below_weaker p.0 k a (omega arith) below)
+    ∙ ceil_of-stop k p b (omega arith)
 
-pub floor_of-front : (k : ℕ) (a : Pairs) (p : ℕ × ℕ) (b : Pairs) → AreAbove p.0 b → k < p.0 → floor_of k (a ++ (p ∷ b)) ≡ floor_of k a
+pub floor_of-front : (k : ℕ) (a : Pairs) (p : ℕ × ℕ) (b : Pairs) → AreAbove p.0 b → k < p.0
+    → floor_of k (a ++ (p ∷ b)) ≡ floor_of k a
 floor_of-front k a p b above less = floor_of-left k a (p ∷ b) (less, above_weaker k p.0 b (omega arith) above)
 
 later_found_or : (p : ℕ × ℕ) (o other : Option (ℕ × ℕ)) → found_or (later p o) other ≡ found_or o (Some p)
@@ -215,15 +244,18 @@ later_found_or p None other = refl
 later_found_or p (Some q) other = refl
 
 -- a pair down from k is the floor, unless there is one behind it
-pub floor_of-back : (k : ℕ) (a : Pairs) (p : ℕ × ℕ) (b : Pairs) → AreBelow p.0 a → p.0 ≤ k → floor_of k (a ++ (p ∷ b)) ≡ found_or (floor_of k b) (Some p)
+pub floor_of-back : (k : ℕ) (a : Pairs) (p : ℕ × ℕ) (b : Pairs) → AreBelow p.0 a → p.0 ≤ k
+    → floor_of k (a ++ (p ∷ b)) ≡ found_or (floor_of k b) (Some p)
 floor_of-back k a p b below le =
     floor_of-right k a (p ∷ b) (below_weaker p.0 k a le below)
     ∙ ap (λ o. found_or o (last_of a)) (floor_of-take k p b le)
     ∙ later_found_or p (floor_of k b) (last_of a)
 
-pub floor_of-here : (k : ℕ) (a : Pairs) (p : ℕ × ℕ) (b : Pairs) → AreBelow p.0 a → AreAbove p.0 b → k ≡ p.0 → floor_of k (a ++ (p ∷ b)) ≡ Some p
+pub floor_of-here : (k : ℕ) (a : Pairs) (p : ℕ × ℕ) (b : Pairs) → AreBelow p.0 a → AreAbove p.0 b → k ≡ p.0
+    → floor_of k (a ++ (p ∷ b)) ≡ Some p
 floor_of-here k a p b below above same =
-    floor_of-back k a p b below (omega arith) ∙ ap (λ o. found_or o (Some p)) (floor_of-above k b (above_weaker k p.0 b (omega arith) above))
+    floor_of-back k a p b below (omega arith)
+    ∙ ap (λ o. found_or o (Some p)) (floor_of-above k b (above_weaker k p.0 b (omega arith) above))
 
 -- The ends
 
@@ -239,7 +271,8 @@ rises_weaker low high (p ∷ ps) le rises = (omega (arith, rises.0), rises.1)
 
 pub rises_above : (k low : ℕ) (ps : Pairs) → k < low → RisesFrom low ps → AreAbove k ps
 rises_above k low [] less rises = tt
-rises_above k low (p ∷ ps) less rises = (omega (arith, rises.0), rises_above k (p.0 + 1) ps (omega (arith, rises.0)) rises.1)
+rises_above k low (p ∷ ps) less rises =
+    (omega (arith, rises.0), rises_above k (p.0 + 1) ps (omega (arith, rises.0)) rises.1)
 
 pub rises_front : (low : ℕ) (a b : Pairs) → RisesFrom low (a ++ b) → RisesFrom low a
 rises_front low [] b rises = tt
@@ -247,13 +280,15 @@ rises_front low (p ∷ a) b rises = (rises.0, rises_front (p.0 + 1) a b rises.1)
 
 pub rises_back : (low : ℕ) (a b : Pairs) → RisesFrom low (a ++ b) → RisesFrom low b
 rises_back low [] b rises = rises
-rises_back low (p ∷ a) b rises = rises_weaker low (p.0 + 1) b (omega (arith, rises.0)) (rises_back (p.0 + 1) a b rises.1)
+rises_back low (p ∷ a) b rises =
+    rises_weaker low (p.0 + 1) b (omega (arith, rises.0)) (rises_back (p.0 + 1) a b rises.1)
 
 rises_reaches : (low : ℕ) (a : Pairs) (p : ℕ × ℕ) (b : Pairs) → RisesFrom low (a ++ (p ∷ b)) → low ≤ p.0
 rises_reaches low [] p b rises = rises.0
 rises_reaches low (q ∷ a) p b rises = omega (arith, rises.0, rises_reaches (q.0 + 1) a p b rises.1)
 
-rises_around : (low : ℕ) (a : Pairs) (p : ℕ × ℕ) (b : Pairs) → RisesFrom low (a ++ (p ∷ b)) → AreBelow p.0 a × AreAbove p.0 b
+rises_around : (low : ℕ) (a : Pairs) (p : ℕ × ℕ) (b : Pairs) → RisesFrom low (a ++ (p ∷ b))
+    → AreBelow p.0 a × AreAbove p.0 b
 rises_around low [] p b rises = (tt, rises_above p.0 (p.0 + 1) b (omega arith) rises.1)
 rises_around low (q ∷ a) p b rises =
     let rest = rises_around (q.0 + 1) a p b rises.1 in
@@ -272,12 +307,16 @@ rises_from_above : (k low : ℕ) (ps : Pairs) → AreAbove k ps → RisesFrom lo
 rises_from_above k low [] above rises = tt
 rises_from_above k low (p ∷ ps) above rises = (omega (arith, above.0), rises.1)
 
-rises_join : (low : ℕ) (a : Pairs) (p : ℕ × ℕ) (b : Pairs) → low ≤ p.0 → RisesFrom low a → AreBelow p.0 a → RisesFrom (p.0 + 1) b → RisesFrom low (a ++ (p ∷ b))
+rises_join : (low : ℕ) (a : Pairs) (p : ℕ × ℕ) (b : Pairs) → low ≤ p.0 → RisesFrom low a → AreBelow p.0 a
+    → RisesFrom (p.0 + 1) b → RisesFrom low (a ++ (p ∷ b))
 rises_join low [] p b le rises below after = (le, after)
-rises_join low (q ∷ a) p b le rises below after = (rises.0, rises_join (q.0 + 1) a p b (omega (arith, below.0)) rises.1 below.1 after)
+rises_join low (q ∷ a) p b le rises below after =
+    (rises.0, rises_join (q.0 + 1) a p b (omega (arith, below.0)) rises.1 below.1 after)
 
-pub rising_join : (a : Pairs) (p : ℕ × ℕ) (b : Pairs) → IsRising a → AreBelow p.0 a → IsRising b → AreAbove p.0 b → IsRising (a ++ (p ∷ b))
-rising_join a p b rising_a below rising_b above = rises_join 0 a p b (omega arith) rising_a below (rises_from_above p.0 0 b above rising_b)
+pub rising_join : (a : Pairs) (p : ℕ × ℕ) (b : Pairs) → IsRising a → AreBelow p.0 a → IsRising b → AreAbove p.0 b
+    → IsRising (a ++ (p ∷ b))
+rising_join a p b rising_a below rising_b above =
+    rises_join 0 a p b (omega arith) rising_a below (rises_from_above p.0 0 b above rising_b)
 
 put_rises_from : (low k v : ℕ) (ps : Pairs) → low ≤ k → RisesFrom low ps → RisesFrom low (put k v ps)
 put_rises_from low k v [] le rises = (le, tt)
@@ -338,7 +377,8 @@ HasKey_above j k (p ∷ ps) above (inr has) = HasKey_above j k ps above.1 has
 once_from : (low k : ℕ) (a b : Pairs) → RisesFrom low (a ++ b) → HasKey k a → HasKey k b → ⊥
 once_from low k [] b rises in_a in_b = in_a
 once_from low k (p ∷ a) b rises (inl same) in_b =
-    let less : p.0 < k = HasKey_above p.0 k b (rises_above p.0 (p.0 + 1) b (omega arith) (rises_back (p.0 + 1) a b rises.1)) in_b in
+    let less : p.0 < k =
+    HasKey_above p.0 k b (rises_above p.0 (p.0 + 1) b (omega arith) (rises_back (p.0 + 1) a b rises.1)) in_b in
     omega arith
 once_from low k (p ∷ a) b rises (inr in_a) in_b = once_from (p.0 + 1) k a b rises.1 in_a in_b
 
@@ -355,7 +395,8 @@ value_at-HasKey k v (p ∷ ps) is = elim (cases_eq k p.0) [
 
 pub value_at-absent : (k : ℕ) (ps : Pairs) → (HasKey k ps → ⊥) → value_at k ps ≡ None
 value_at-absent k [] absent = refl
-value_at-absent k (p ∷ ps) absent = value_at-skip k p ps (λ same. absent (inl same)) ∙ value_at-absent k ps (λ has. absent (inr has))
+value_at-absent k (p ∷ ps) absent = value_at-skip k p ps (λ same. absent (inl same))
+    ∙ value_at-absent k ps (λ has. absent (inr has))
 
 -- Small keys and values
 
@@ -367,7 +408,8 @@ pub AreSmall-split : (a b : Pairs) → AreSmall (a ++ b) → AreSmall a × AreSm
 AreSmall-split [] b small = (tt, small)
 AreSmall-split (p ∷ a) b small = let rest = AreSmall-split a b small.2 in ((small.0, small.1, rest.0), rest.1)
 
-pub put_small : (k v : ℕ) (ps : Pairs) → k ≤ 999999999999999999 → v ≤ 999999999999999999 → AreSmall ps → AreSmall (put k v ps)
+pub put_small : (k v : ℕ) (ps : Pairs) → k ≤ 999999999999999999 → v ≤ 999999999999999999 → AreSmall ps
+    → AreSmall (put k v ps)
 put_small k v [] small_key small_value small = (small_key, small_value, tt)
 put_small k v (p ∷ ps) small_key small_value small = cond_both (nat_lt k p.0) _ _ AreSmall
     (λ _. (small_key, small_value, small))

@@ -52,7 +52,8 @@ pub record NoDebtIsInvented : Type 0 where
   pub after_raise_to_none : (q : ℕ) (d : Debts) → IsOwed q (raised None d) ↔ IsTrue (has q d.keys)
   pub after_raise : (q n : ℕ) (d : Debts) → IsOwed q (raised (Some n) d) ↔ (IsTrue (has q d.keys) ⊎ (n ≤ q))
   pub settles : (s : Settle) (d : Debts) → IsSettled s d (settled s d)
-  pub put_first_is_first : (k : ℕ) (d : Debts) → first_owed (put_in_front k d).keys (put_in_front k d).from ≡ Some (Key k)
+  pub put_first_is_first : (k : ℕ) (d : Debts) → first_owed (put_in_front k d).keys (put_in_front k d).from
+      ≡ Some (Key k)
   pub keys_before_number : (k : ℕ) (keys : List ℕ) (from : Option ℕ) → first_owed (k ∷ keys) from ≡ Some (Key k)
 
 -- this key is owed; or no key is listed, and what is owed is every key from this one on

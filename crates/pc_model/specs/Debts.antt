@@ -40,7 +40,10 @@ lowered k (Some n) = Some (min n k)
 abbrev pub with_room : Debts → Debts
 with_room d =
     if nat_lt (length d.keys) 64 then d
-    else record { keys = take (length d.keys - 1) d.keys; from = lowered (slice_index d.keys (length d.keys - 1)) d.from }
+    else record {
+      keys = take (length d.keys - 1) d.keys;
+      from = lowered (slice_index d.keys (length d.keys - 1)) d.from;
+    }
 
 -- A key that is in the list stays where it is. Another goes to the front, or, where there are 64 keys,
 -- lowers the number.

@@ -12,4 +12,5 @@ pub record GoesInParts : Type 0 where
 
 -- the entries of a history of one client are all its own, numbered 1, 2 and so on, with its calls in order
 abbrev pub IsItsCallsInOrder : Type 0
-IsItsCallsInOrder = (calls : List Call) (es : List Entry) → IsHistoryOf (calls ∷ []) es ↔ (AllOfPass 1 es × IsNumberedFrom 1 es × (calls_of es ≡ calls))
+IsItsCallsInOrder = (calls : List Call) (es : List Entry)
+    → IsHistoryOf (calls ∷ []) es ↔ (AllOfPass 1 es × IsNumberedFrom 1 es × (calls_of es ≡ calls))

@@ -39,4 +39,5 @@ abbrev pub MaySettle : Form → ℕ → Exchange → List ℕ → ℕ → Settle
 MaySettle form slots e charged lower Nothing = Unit {0}
 MaySettle form slots e charged lower (Release k) = IsTrue (has k charged) ⊎ PutsRight form slots e k
 MaySettle form slots e charged lower (First k) = Unit {0}
-MaySettle form slots e charged lower (Raise to) = (k : ℕ) → lower ≤ k → IsBelowEnd k to → IsTrue (has k charged) ⊎ PutsRight form slots e k
+MaySettle form slots e charged lower (Raise to) = (k : ℕ) → lower ≤ k → IsBelowEnd k to
+    → IsTrue (has k charged) ⊎ PutsRight form slots e k

@@ -29,5 +29,7 @@ pub record IsGreatestTo (k : ℕ) (ps : Pairs) (p : ℕ × ℕ) : Type 0 where
 
 -- ceil and floor give the nearest key, or there is none
 pub record FindsNearest : Type 0 where
-  pub ceil : (k : ℕ) (ps : Pairs) → IsRising ps → MatchOption (ceil_of k ps) ((q : ℕ) → k ≤ q → value_at q ps ≡ None) (IsLeastFrom k ps)
-  pub floor : (k : ℕ) (ps : Pairs) → IsRising ps → MatchOption (floor_of k ps) ((q : ℕ) → q ≤ k → value_at q ps ≡ None) (IsGreatestTo k ps)
+  pub ceil : (k : ℕ) (ps : Pairs) → IsRising ps
+      → MatchOption (ceil_of k ps) ((q : ℕ) → k ≤ q → value_at q ps ≡ None) (IsLeastFrom k ps)
+  pub floor : (k : ℕ) (ps : Pairs) → IsRising ps
+      → MatchOption (floor_of k ps) ((q : ℕ) → q ≤ k → value_at q ps ≡ None) (IsGreatestTo k ps)

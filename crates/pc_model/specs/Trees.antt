@@ -33,7 +33,8 @@ pub record IsTreeNode (kind : Kind) (slots : ℕ) (c : Cells) (above n : ℕ) : 
 -- a link below a node spells a tree
 abbrev pub Spells : Kind → ℕ → Cells → Tree → ℕ → ℕ → Type 0
 Spells kind slots c Empty above link = link ≡ 0
-Spells kind slots c (Fork n l r) above link = (link ≡ n) × IsTreeNode kind slots c above n × Spells kind slots c l n (c n Left) × Spells kind slots c r n (c n Right)
+Spells kind slots c (Fork n l r) above link = (link ≡ n) × IsTreeNode kind slots c above n
+    × Spells kind slots c l n (c n Left) × Spells kind slots c r n (c n Right)
 
 -- a node stands in a tree
 abbrev pub IsIn : ℕ → Tree → Type 0

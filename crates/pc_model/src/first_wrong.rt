@@ -1,6 +1,7 @@
 //! Replaying a list of entries on an ordered map, to see whether each reply is the map's.
 ghost use Rattle.std.specs.Prelude.{◌≡◌, ◌↔◌, None, IfOk, IfSome, OnOk};
-ghost use Rattle.pc_model.specs.Map.{reply_of, pairs_after, value_at, put, ceil_of, floor_of, was_or_new, value_or_nothing, pair_or_nothing};
+ghost use Rattle.pc_model.specs.Map.{reply_of, pairs_after, value_at, put, ceil_of, floor_of, was_or_new};
+ghost use Rattle.pc_model.specs.Map.{value_or_nothing, pair_or_nothing};
 ghost use Rattle.pc_model.specs.Replay.{IsRight};
 ghost use Rattle.pc_model.specs.FirstWrong.{IsFirstWrong};
 

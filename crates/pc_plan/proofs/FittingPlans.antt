@@ -108,7 +108,8 @@ module _ {P C : Type 0} (start : C → P) (moves : P → Told → P × Ask) (can
     fits_there : Fits form slots e p.charged
     fits_there = record {
       leaves = λ c sound stands.
-          let same : e ≡ exchange_of past p slot (c slot VersionField) = same_exchange past p slot version c stands in (
+          let same : e ≡ exchange_of past p slot (c slot VersionField) =
+          same_exchange past p slot version c stands in (
             ((terms call).step sound.0).pairs,
             subst (λ (x : Exchange). form.sound slots (applied x c)
                 ((terms call).step sound.0).pairs) (sym same) (right_there c sound stands).0.leaves,

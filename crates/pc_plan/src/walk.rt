@@ -4,7 +4,8 @@
 ghost use Rattle.std.specs.Prelude.{◌≡◌};
 ghost use Rattle.pc_model.specs.Cells.{node_at};
 ghost use Rattle.pc_model.specs.Debts.{has};
-ghost use Rattle.pc_plan.specs.Walks.{side_toward, walk_of, walk_step, visiting, reading_link, arriving, meeting, following, on_way, way};
+ghost use Rattle.pc_plan.specs.Walks.{side_toward, walk_of, walk_step, visiting, reading_link, arriving, meeting};
+ghost use Rattle.pc_plan.specs.Walks.{following, on_way, way};
 ghost use Rattle.pc_plan.specs.declared.plan.Turn.TheVariants.{Read as ToRead};
 
 use crate::plan::{Told, Turn};

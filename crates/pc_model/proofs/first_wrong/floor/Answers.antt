@@ -6,7 +6,8 @@ use Rattle.pc_model.proofs.first_wrong.floor.Goals as goal
 
 pub returns-in_err-key : goal.returns-in_err-key
 returns-in_err-key c =
-    c.from_residual.ensures ∙ ap last_of (sym c.in_err-key.ensures.steps.0 ∙ c.range.ensures.between tt) ∙ last_to-is_floor_of c.args.key c.args.map.now.entries c.range.ensures.ordered
+    c.from_residual.ensures ∙ ap last_of (sym c.in_err-key.ensures.steps.0 ∙ c.range.ensures.between tt)
+    ∙ last_to-is_floor_of c.args.key c.args.map.now.entries c.range.ensures.ordered
 
 pub returns : goal.returns
 returns c =

@@ -7,17 +7,26 @@ use Rattle.pc_model.proofs.owed.Owed.release.Goals as goal
 pub returns-in_default : goal.returns-in_default
 returns-in_default c =
     let with_keys : List ℕ → Debts = λ keys. record { keys = keys; from = c.args.self.now.from } in
-    ap with_keys (sym (without_key-absent c.args.key c.args.self.now.keys (absent_from_position c.args.key c.args.self.now.keys (sym c.in_default.ensures))))
+    ap with_keys (sym (without_key-absent c.args.key c.args.self.now.keys
+    (absent_from_position c.args.key c.args.self.now.keys (sym c.in_default.ensures))))
 
 -- the keys that are left
 left : (c : goal.After-self-1)
-    → take (c.self.inside.count - 1) (put_mid c.in-Some.place (64 - c.in-Some.place) c.self.inside.keys c.rotate_left.new.self) ≡ without_key c.args.key (take c.self.inside.count c.self.inside.keys)
+    → take (c.self.inside.count - 1)
+    (put_mid c.in-Some.place (64 - c.in-Some.place) c.self.inside.keys c.rotate_left.new.self)
+    ≡ without_key c.args.key (take c.self.inside.count c.self.inside.keys)
 left c =
-    released_list c.self.inside.keys c.rotate_left.new.self c.self.inside.count c.in-Some.place c.args.key c.self.told c.self.invariant.0
-    (ap (λ (d : Debts). position (λ x. x == c.args.key) d.keys) c.self.view_is ∙ sym c.in-Some.ensures) c.self.invariant.1 c.rotate_left.ensures.after
+    released_list c.self.inside.keys c.rotate_left.new.self c.self.inside.count c.in-Some.place c.args.key
+    c.self.told c.self.invariant.0
+    (ap (λ (d : Debts). position (λ x. x == c.args.key) d.keys) c.self.view_is
+    ∙ sym c.in-Some.ensures) c.self.invariant.1 c.rotate_left.ensures.after
 
 pub invariant_of-self : goal.invariant_of-self
-invariant_of-self c = (omega (arith, c.self.invariant.0), subst AreDifferent (sym (left c)) (different_without_key c.args.key (take c.self.inside.count c.self.inside.keys) c.self.invariant.1))
+invariant_of-self c = (
+  omega (arith, c.self.invariant.0),
+  subst AreDifferent (sym (left c))
+      (different_without_key c.args.key (take c.self.inside.count c.self.inside.keys) c.self.invariant.1),
+)
 
 pub returns : goal.returns
 returns c =
