@@ -1,5 +1,5 @@
 #!/usr/bin/env python3
-"""Checks that docs/DEFINITIONS.md has each definition of this repository that the contract of a public function cites."""
+"""Checks that docs/DEFINITIONS.md has each definition that the contract of a public function cites."""
 
 import pathlib
 import re

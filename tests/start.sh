@@ -118,7 +118,8 @@ wait $one $two
 run cat "$here/one" "$here/two"
 check 'two calls at once' 0 'waiting for it' 'first'
 holds 'two calls at once: one build' [ "$(runs)" = 1 ]
-holds 'two calls at once: both run' [ "$(grep -c '^first' "$here/one" "$here/two" | paste -sd' ')" = "$here/one:1 $here/two:1" ]
+both=$(grep -c '^first' "$here/one" "$here/two" | paste -sd' ')
+holds 'two calls at once: both run' [ "$both" = "$here/one:1 $here/two:1" ]
 
 checkout ended
 touch "$at/wait"

@@ -26,9 +26,9 @@ use Rattle.pc_text.specs.declared.line.LineClass.TheVariants.{Command}
 use Rattle.pc_text.specs.Lines.{without_empty_last, lines_of}
 use Rattle.pc_text.specs.Script.{classes_of, first_bad, clients_of, calls_of}
 use Rattle.pc_text.specs.ScriptFacts.{IsCallInRange}
-use Rattle.pc_text.specs.ScriptLine.{is_plain, class_after, class_of}
+use Rattle.pc_text.specs.ScriptLine.{is_plain, class_of}
 use Rattle.pc_text.specs.ScriptText.{line_of, text_of, ReadsBack}
-use Rattle.pc_text.specs.ScriptWords.{is_blank, is_number, keyword_of, words_of}
+use Rattle.pc_text.specs.ScriptWords.{is_blank, is_number, words_of}
 
 -- ---- numbers
 

@@ -1,5 +1,5 @@
 -- What a turn takes comes behind what was taken before.
-use Rattle.std.proofs.Common.{◌≡◌, ℕ, ◌+◌, ◌≤◌, length, take, vec_len, sym, ap, ◌∙◌, subst, arith}
+use Rattle.std.proofs.Common.{◌≡◌, ◌+◌, take, sym, ap, ◌∙◌, subst, arith}
 use Rattle.std.proofs.lemmas.List.{take-take, take-append-le}
 use Rattle.std.specs.Io.KnownBytes.{Consumes}
 use Rattle.pathmap.specs.Reading.{IsInput}

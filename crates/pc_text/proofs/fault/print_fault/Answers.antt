@@ -1,6 +1,4 @@
 -- The line goes through an empty chunk.
-use Rattle.std.proofs.Common.{◌++◌}
-use Rattle.std.proofs.lemmas.Result.{err_from_is_err_and}
 use Rattle.pc_edge.proofs.Sends.{Writes-then}
 use Rattle.pc_text.proofs.PrintedLines.{Writes-from_empty}
 use Rattle.pc_text.specs.FaultLine.{fault_line}

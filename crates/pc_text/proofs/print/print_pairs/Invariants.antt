@@ -1,6 +1,6 @@
 -- The lines of the first pairs were written, but for what waits in the chunk.
 use Rattle.std.proofs.Common.{◌++◌, take}
-use Rattle.std.specs.Prelude.{Result, Ok}
+use Rattle.std.specs.Prelude.{Ok}
 use Rattle.pc_edge.specs.declared.traits.Failed.{Failed}
 use Rattle.pc_edge.specs.Sending.{Writes}
 use Rattle.pc_text.specs.Printed.{pair_lines}

@@ -3,7 +3,6 @@ use Rattle.std.proofs.Common.{◌≡◌, [], List, ap, sym, ◌∙◌, arith, ma
 use Rattle.std.proofs.lemmas.List.{length-map, take-map}
 use Rattle.std.proofs.lemmas.List.Elements.{All-map}
 use Rattle.pc_model.specs.declared.call.Call.{Call}
-use Rattle.pc_text.specs.declared.limits.TheConstants.{MOST_COMMANDS}
 use Rattle.pc_text.specs.declared.line.LineClass.TheVariants.{Skip, Turn, Command, Bad}
 use Rattle.pc_text.specs.ScriptFacts.{AreInRange}
 use Rattle.pc_text.proofs.ReadLemmas.{reads, has_read_none, has_read_skip, has_read_turn, has_read_command, bad_at, full_at, is_read}
