@@ -25,7 +25,8 @@ HasRoomFor form w = (ps : Pairs) × form.sound w.slots (cells_of w) ps × (lengt
 
 -- the reply is the map's for the tree's pairs, and the tree has the map's next pairs
 abbrev pub AnswersAs : Call → PlainWords → PlainWords → Reply → Type 0
-AnswersAs call old new r = (ps : Pairs) → IsSearchTree plain old.slots (cells_of old) ps → (r ≡ reply_of call ps) × IsSearchTree plain new.slots (cells_of new) (pairs_after call ps)
+AnswersAs call old new r = (ps : Pairs) → IsSearchTree plain old.slots (cells_of old) ps
+    → (r ≡ reply_of call ps) × IsSearchTree plain new.slots (cells_of new) (pairs_after call ps)
 
 -- the calls so far were run: their history is right, and the tree has the map that they leave
 pub record HasRun (slots : ℕ) (calls : List Call) (w : PlainWords) (history : List Entry) : Type 0 where

@@ -7,7 +7,8 @@ use Rattle.pc_edge.specs.Faults.{HasRisen}
 use Rattle.pc_edge.specs.declared.traits.Failed.{Failed}
 use Rattle.pc_edge.specs.Sending.{AppendsFront, Writes}
 use Rattle.pc_text.specs.declared.fault.Fault.{Fault}
-use Rattle.pc_text.specs.declared.fault.Fault.TheVariants.{Usage, Script, Read, TooLargeInput, TooManySlots, Slots, Numbers, Memory, NotBuilt}
+use Rattle.pc_text.specs.declared.fault.Fault.TheVariants.{Usage, Script, Read, TooLargeInput, TooManySlots, Slots}
+use Rattle.pc_text.specs.declared.fault.Fault.TheVariants.{Numbers, Memory, NotBuilt}
 use Rattle.pc_text.specs.declared.kind.ScriptKind.{ScriptKind}
 use Rattle.pc_text.specs.declared.limits.TheConstants.{MOST_BYTES}
 use Rattle.pc_text.specs.Fault.{status_of}
@@ -66,7 +67,8 @@ IsCauseOf words input faults faults' Usage = words ≢ 1
 IsCauseOf words input faults faults' NotBuilt = (words ≡ 1) × IfSome input SpellsMany
 IsCauseOf words input faults faults' Read = (words ≡ 1) × HasRisen faults faults'
 IsCauseOf words input faults faults' Memory = words ≡ 1
-IsCauseOf words input faults faults' (Script line kind) = (words ≡ 1) × IfSome input (λ bytes. HasBadLine bytes line kind)
+IsCauseOf words input faults faults' (Script line kind) =
+    (words ≡ 1) × IfSome input (λ bytes. HasBadLine bytes line kind)
 IsCauseOf words input faults faults' TooLargeInput = (words ≡ 1) × IfSome input IsTooLong
 IsCauseOf words input faults faults' TooManySlots = ⊥
 IsCauseOf words input faults faults' (Slots client number) = ⊥

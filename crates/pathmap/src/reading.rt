@@ -54,7 +54,8 @@ fn make_room(bytes: &mut Vec<u8>, filled: usize) -> Result<(), AllocError>
 // Reads the next piece behind the bytes that are filled.
 fn read_piece<S: Source>(source: &mut S, bytes: &mut [u8], filled: usize) -> Result<usize, Fault>
     requires room { filled < length bytes.old }
-    ensures piece { IfOk result (λ n. TakesPiece (S.left source.old) (S.left source.new) (take filled bytes.old) (take (filled + n) bytes.new) n) }
+    ensures piece { IfOk result (λ n. TakesPiece (S.left source.old) (S.left source.new) (take filled bytes.old)
+        (take (filled + n) bytes.new) n) }
     ensures within { IfOk result (λ n. filled + n ≤ length bytes.old) }
     ensures cause { IfErr result (IsReadFault (S.left source.old) (S.faults source.old) (S.faults source.new)) }
     ensures never_falls { S.faults source.old ≤ S.faults source.new }

@@ -62,13 +62,16 @@ pub fn serve<R: Threads + Wait + Sync, S: Source, K: Sink, G: Gate + Sync>(
 
     // Each other status is that of a fault with its cause, whose line was written.
     ensures fault { result.status ≢ PRINTED → result.status ≢ STOPPED →
-        EndsInFault result.status (IsCauseOf (length words.now) (S.left source.old) (S.faults source.old) (S.faults source.new))
+        EndsInFault result.status
+        (IsCauseOf (length words.now) (S.left source.old) (S.faults source.old) (S.faults source.new))
         (WritesFault K.held K.faults sink.old sink.new) }
     ensures usage { length words.now ≢ 1 → result.status ≡ status_of Fault.Usage }
     ensures too_large { length words.now ≡ 1 →
-        IfSome (S.left source.old) (λ bytes. IsTooLong bytes → EndsUnlessStopped (status_of Fault.TooLargeInput) result.status) }
+        IfSome (S.left source.old) (λ bytes. IsTooLong bytes →
+        EndsUnlessStopped (status_of Fault.TooLargeInput) result.status) }
     ensures refused { length words.now ≡ 1 →
-        IfSome (S.left source.old) (λ bytes. IsRefused bytes → EndsUnlessStopped (status_of Fault.NotBuilt) result.status) }
+        IfSome (S.left source.old) (λ bytes. IsRefused bytes →
+        EndsUnlessStopped (status_of Fault.NotBuilt) result.status) }
 
     // Without exactly one word nothing is read, and else at most one byte past the limit.
     ensures unread { length words.now ≢ 1 → source.new ≡ source.old }
@@ -88,10 +91,12 @@ pub fn serve<R: Threads + Wait + Sync, S: Source, K: Sink, G: Gate + Sync>(
 
 // Reads the script and runs it. Nothing is printed.
 fn run_input<S: Source>(alloc: Global, words: &[String], source: &mut S) -> Result<Run, Fault>
-    ensures ok { IfOk result (λ run. HasRunAll (S.left source.old) (S.left source.new) run.history.items run.pairs.items) }
+    ensures ok { IfOk result
+        (λ run. HasRunAll (S.left source.old) (S.left source.new) run.history.items run.pairs.items) }
     ensures one_word { IfOk result (λ _. length words.now ≡ 1) }
     ensures not_refused { IfOk result (λ _. IfSome (S.left source.old) (λ bytes. IsRefused bytes → ⊥)) }
-    ensures cause { IfErr result (IsCauseOf (length words.now) (S.left source.old) (S.faults source.old) (S.faults source.new)) }
+    ensures cause { IfErr result
+        (IsCauseOf (length words.now) (S.left source.old) (S.faults source.old) (S.faults source.new)) }
     ensures unread { length words.now ≢ 1 → source.new ≡ source.old }
     ensures few { TakesAtMost (MOST_BYTES + 1) (S.left source.old) (S.left source.new) }
     ensures never_falls { S.faults source.old ≤ S.faults source.new }

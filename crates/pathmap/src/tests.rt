@@ -82,12 +82,14 @@ fn each_input_has_its_status_and_output(rt: HostRuntime) -> Result<(), Fail> {
         (
             "put 0 0\nput 999999999999999999 999999999999999999\n",
             0,
-            "1 1.1 put 0 0 = new\n2 1.2 put 999999999999999999 999999999999999999 = new\nleft 2\n0 0\n999999999999999999 999999999999999999\nend\n",
+            "1 1.1 put 0 0 = new\n2 1.2 put 999999999999999999 999999999999999999 = new\nleft 2\n\
+             0 0\n999999999999999999 999999999999999999\nend\n",
         ),
         (
             "put 3 30\nput 1 10\nput 2 20\nget 2\nget 4\n",
             0,
-            "1 1.1 put 3 30 = new\n2 1.2 put 1 10 = new\n3 1.3 put 2 20 = new\n4 1.4 get 2 = 20\n5 1.5 get 4 = none\nleft 3\n1 10\n2 20\n3 30\nend\n",
+            "1 1.1 put 3 30 = new\n2 1.2 put 1 10 = new\n3 1.3 put 2 20 = new\n4 1.4 get 2 = 20\n\
+             5 1.5 get 4 = none\nleft 3\n1 10\n2 20\n3 30\nend\n",
         ),
         (
             "get 5\nremove 5\n",
@@ -98,23 +100,29 @@ fn each_input_has_its_status_and_output(rt: HostRuntime) -> Result<(), Fail> {
         (
             "put 2 20\nput 1 10\nput 3 30\nremove 2\n",
             0,
-            "1 1.1 put 2 20 = new\n2 1.2 put 1 10 = new\n3 1.3 put 3 30 = new\n4 1.4 remove 2 = 20\nleft 2\n1 10\n3 30\nend\n",
+            "1 1.1 put 2 20 = new\n2 1.2 put 1 10 = new\n3 1.3 put 3 30 = new\n4 1.4 remove 2 = 20\n\
+             left 2\n1 10\n3 30\nend\n",
         ),
         // The successor lies deeper and has a right child.
         (
             "put 10 10\nput 5 5\nput 20 20\nput 15 15\nput 25 25\nput 17 17\nremove 10\n",
             0,
-            "1 1.1 put 10 10 = new\n2 1.2 put 5 5 = new\n3 1.3 put 20 20 = new\n4 1.4 put 15 15 = new\n5 1.5 put 25 25 = new\n6 1.6 put 17 17 = new\n7 1.7 remove 10 = 10\nleft 5\n5 5\n15 15\n17 17\n20 20\n25 25\nend\n",
+            "1 1.1 put 10 10 = new\n2 1.2 put 5 5 = new\n3 1.3 put 20 20 = new\n\
+             4 1.4 put 15 15 = new\n5 1.5 put 25 25 = new\n6 1.6 put 17 17 = new\n\
+             7 1.7 remove 10 = 10\nleft 5\n5 5\n15 15\n17 17\n20 20\n25 25\nend\n",
         ),
         (
             "put 5 50\nput 9 90\nceil 7\nfloor 7\nceil 10\nfloor 4\nceil 5\nfloor 9\n",
             0,
-            "1 1.1 put 5 50 = new\n2 1.2 put 9 90 = new\n3 1.3 ceil 7 = 9 90\n4 1.4 floor 7 = 5 50\n5 1.5 ceil 10 = none\n6 1.6 floor 4 = none\n7 1.7 ceil 5 = 5 50\n8 1.8 floor 9 = 9 90\nleft 2\n5 50\n9 90\nend\n",
+            "1 1.1 put 5 50 = new\n2 1.2 put 9 90 = new\n3 1.3 ceil 7 = 9 90\n4 1.4 floor 7 = 5 50\n\
+             5 1.5 ceil 10 = none\n6 1.6 floor 4 = none\n7 1.7 ceil 5 = 5 50\n8 1.8 floor 9 = 9 90\n\
+             left 2\n5 50\n9 90\nend\n",
         ),
         (
             "put 1 1\nremove 1\nput 1 2\nremove 1\nput 1 3\n",
             0,
-            "1 1.1 put 1 1 = new\n2 1.2 remove 1 = 1\n3 1.3 put 1 2 = new\n4 1.4 remove 1 = 2\n5 1.5 put 1 3 = new\nleft 1\n1 3\nend\n",
+            "1 1.1 put 1 1 = new\n2 1.2 remove 1 = 1\n3 1.3 put 1 2 = new\n4 1.4 remove 1 = 2\n\
+             5 1.5 put 1 3 = new\nleft 1\n1 3\nend\n",
         ),
         // Comments, blanks, carriage returns, zeros in front, and a last line without its end.
         (

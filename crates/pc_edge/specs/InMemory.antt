@@ -1,5 +1,6 @@
 -- What a source and a sink in memory are seen as, and what each read and write makes of them.
-use Rattle.std.specs.Prelude.{ℕ, ◌+◌, ◌-◌, ◌^◌, ◌==◌, ◌&&◌, ◌||◌, min, nat_lt, nat_le, if◌then◌else◌, Bool, List, ◌++◌, length, take, drop}
+use Rattle.std.specs.Prelude.{ℕ, ◌+◌, ◌-◌, ◌^◌, ◌==◌, ◌&&◌, ◌||◌, min, nat_lt, nat_le, if◌then◌else◌, Bool, List}
+use Rattle.std.specs.Prelude.{◌++◌, length, take, drop}
 use Rattle.std.specs.List.{list_any}
 
 -- one more, but a count at the last number of 64 bits stands still
@@ -10,7 +11,8 @@ one_more n = min (n + 1) (2 ^ 64 - 1)
 abbrev pub is_listed : List ℕ → ℕ → Bool
 is_listed fails call = list_any (λ c. c == call) fails
 
--- a source: all its bytes, how many were given, how many a read gives at most, which calls fail, and how many there were
+-- a source: all its bytes, how many were given, how many a read gives at most, which calls fail, and how many there
+-- were
 pub record SourceState : Type 0 where
   pub bytes : List ℕ
   pub at : ℕ
@@ -36,7 +38,8 @@ after_read s room =
     then record s { calls = one_more s.calls; faults = one_more s.faults }
     else record s { calls = one_more s.calls; at = s.at + read_count s room }
 
--- a sink: the bytes that it took, how many it can hold, how many a write takes at most, which calls fail, and how many there were
+-- a sink: the bytes that it took, how many it can hold, how many a write takes at most, which calls fail, and how
+-- many there were
 pub record SinkState : Type 0 where
   pub held : List ℕ
   pub room : ℕ

@@ -1,9 +1,11 @@
 //! A source and a sink in memory, whose answers are known to the byte and to the call. They can be
 //! told which of their calls fail.
-ghost use Rattle.std.specs.Prelude.{◌≡◌, ℕ, ◌+◌, ◌<◌, ◌≤◌, List, [], length, drop, Option, Some, IfOk, OnOk, OnErr, IsOk, is_err, vec_capacity};
+ghost use Rattle.std.specs.Prelude.{◌≡◌, ℕ, ◌+◌, ◌<◌, ◌≤◌, List, [], length, drop, Option, Some, IfOk, OnOk, OnErr};
+ghost use Rattle.std.specs.Prelude.{IsOk, is_err, vec_capacity};
 ghost use Rattle.std.specs.Io.KnownBytes.{ReadConsumes, WriteAppends};
 ghost use Rattle.pc_edge.specs.Faults.{HasRisen};
-ghost use Rattle.pc_edge.specs.InMemory.{SourceState, SinkState, left_of, read_fails, read_count, after_read, write_fails, write_count, after_write};
+ghost use Rattle.pc_edge.specs.InMemory.{SourceState, SinkState, left_of, read_fails, read_count, after_read};
+ghost use Rattle.pc_edge.specs.InMemory.{write_fails, write_count, after_write};
 
 use super::copy::give;
 use super::traits::{Failed, Sink, Source};
@@ -110,7 +112,14 @@ impl MemorySink {
     /// An empty sink with this room, which it reserves, and no failing calls.
     pub fn with_room(alloc: Global, room: usize, piece: usize) -> Result<MemorySink, Memory>
         requires { 1 ≤ piece }
-        ensures { IfOk result (λ s. s ≡ record { held = []; room = room; piece = piece; fails = []; calls = 0; faults = 0 }) }
+        ensures { IfOk result (λ s. s ≡ record {
+          held = [];
+          room = room;
+          piece = piece;
+          fails = [];
+          calls = 0;
+          faults = 0;
+        }) }
     {
         match Vec::with_capacity(alloc, room) {
             Err(_) => Err(Memory),

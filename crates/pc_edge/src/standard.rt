@@ -77,7 +77,8 @@ impl<'a> Source for NeverFails<'a> {
 
     fn read(&mut self, buf: &mut [u8]) -> Result<usize, Failed>
         ensures bound { IfOk result (λ n. n ≤ length buf.new) }
-        ensures bytes { ReadConsumes (Some (drop self.old.at self.old.bytes.now)) (Some (drop self.new.at self.new.bytes.now)) result buf.new }
+        ensures bytes { ReadConsumes (Some (drop self.old.at self.old.bytes.now))
+            (Some (drop self.new.at self.new.bytes.now)) result buf.new }
         ensures cause { OnErr result (HasRisen no_faults no_faults) }
         ensures never_falls { no_faults ≤ no_faults }
         // It never fails, and gives as much as it can.

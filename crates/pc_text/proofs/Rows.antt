@@ -9,9 +9,11 @@ use Rattle.pc_model.specs.declared.call.Reply.TheVariants.{New, Value}
 use Rattle.pc_model.specs.declared.call.Entry.{Entry}
 use Rattle.pc_text.specs.declared.fault.Fault.TheVariants.{Usage, Script}
 use Rattle.pc_text.specs.declared.kind.ScriptKind.{ScriptKind}
-use Rattle.pc_text.specs.declared.kind.ScriptKind.TheVariants.{BadByte, UnknownWord, WordCount, BadNumber, TooManyClients}
+use Rattle.pc_text.specs.declared.kind.ScriptKind.TheVariants.{BadByte, UnknownWord, WordCount, BadNumber}
+use Rattle.pc_text.specs.declared.kind.ScriptKind.TheVariants.{TooManyClients}
 use Rattle.pc_text.specs.FaultLine.{kind_text, fault_text, fault_line}
-use Rattle.pc_text.specs.Printed.{call_text, reply_text, turn_text, entry_line, left_line, pair_line, end_line, printed_run}
+use Rattle.pc_text.specs.Printed.{call_text, reply_text, turn_text, entry_line, left_line, pair_line, end_line}
+use Rattle.pc_text.specs.Printed.{printed_run}
 use Rattle.pc_text.specs.Script.{script_of}
 use Rattle.pc_text.specs.ScriptValue.{ScriptValue}
 
@@ -30,10 +32,12 @@ empty = refl
 -- ---- lines and words
 
 -- a comment with bytes past 126, a blank line, spaces and a tab, and no line feed at the end
-comment_and_blanks : script_of (codes "# Z" ++ 195 ∷ 188 ∷ codes "rich\r\n\r\n  put\t007 1\r\nget 7") ≡ of_one (Put 7 1 ∷ Get 7 ∷ [])
+comment_and_blanks : script_of (codes "# Z" ++ 195 ∷ 188 ∷ codes "rich\r\n\r\n  put\t007 1\r\nget 7")
+    ≡ of_one (Put 7 1 ∷ Get 7 ∷ [])
 comment_and_blanks = refl
 
-five_commands : script_of (codes "put 5 50\nget 5\nremove 5\nceil 5\nfloor 5\n") ≡ of_one (Put 5 50 ∷ Get 5 ∷ Remove 5 ∷ Ceil 5 ∷ Floor 5 ∷ [])
+five_commands : script_of (codes "put 5 50\nget 5\nremove 5\nceil 5\nfloor 5\n")
+    ≡ of_one (Put 5 50 ∷ Get 5 ∷ Remove 5 ∷ Ceil 5 ∷ Floor 5 ∷ [])
 five_commands = refl
 
 blanks_around : script_of (codes " \t get \t 7 \t \n") ≡ of_one (Get 7 ∷ [])
@@ -62,22 +66,26 @@ return_in_the_middle = refl
 
 -- ---- clients
 
-clients_in_turn : script_of (codes "get 1\nclient 3\nget 2\nclient 1\nget 3\nclient 3\nget 4\n") ≡ of_clients ((Get 1 ∷ Get 3 ∷ []) ∷ [] ∷ (Get 2 ∷ Get 4 ∷ []) ∷ []) 3
+clients_in_turn : script_of (codes "get 1\nclient 3\nget 2\nclient 1\nget 3\nclient 3\nget 4\n")
+    ≡ of_clients ((Get 1 ∷ Get 3 ∷ []) ∷ [] ∷ (Get 2 ∷ Get 4 ∷ []) ∷ []) 3
 clients_in_turn = refl
 
 -- the greatest client counts, not the last one that was named
-greatest_client : script_of (codes "client 3\nget 1\nclient 2\nget 2\n") ≡ of_clients ([] ∷ (Get 2 ∷ []) ∷ (Get 1 ∷ []) ∷ []) 3
+greatest_client : script_of (codes "client 3\nget 1\nclient 2\nget 2\n")
+    ≡ of_clients ([] ∷ (Get 2 ∷ []) ∷ (Get 1 ∷ []) ∷ []) 3
 greatest_client = refl
 
 fifth_client_alone : script_of (codes "client 5") ≡ of_clients ([] ∷ [] ∷ [] ∷ [] ∷ [] ∷ []) 5
 fifth_client_alone = refl
 
-client_named_at_length : script_of (codes "client 0000000000000000000000000000002\nget 1") ≡ of_clients ([] ∷ (Get 1 ∷ []) ∷ []) 2
+client_named_at_length : script_of (codes "client 0000000000000000000000000000002\nget 1")
+    ≡ of_clients ([] ∷ (Get 1 ∷ []) ∷ []) 2
 client_named_at_length = refl
 
 -- ---- numbers
 
-last_numbers : script_of (codes "put 0 0\nput 999999999999999999 999999999999999999\n") ≡ of_one (Put 0 0 ∷ Put 999999999999999999 999999999999999999 ∷ [])
+last_numbers : script_of (codes "put 0 0\nput 999999999999999999 999999999999999999\n")
+    ≡ of_one (Put 0 0 ∷ Put 999999999999999999 999999999999999999 ∷ [])
 last_numbers = refl
 
 thirty_digits : script_of (codes "get 000000000000999999999999999999\n") ≡ of_one (Get 999999999999999999 ∷ [])
@@ -131,6 +139,7 @@ script_line : fault_line (Script 2 UnknownWord) ≡ codes "fault line 2 unknown 
 unfolding fault_line fault_text kind_text digits
 script_line = refl
 
-put_and_get : printed_run (entry 1 (Put 5 50) New ∷ entry 2 (Get 5) (Value 50) ∷ []) ((5, 50) ∷ []) ≡ codes "1 1.1 put 5 50 = new\n2 1.2 get 5 = 50\nleft 1\n5 50\nend\n"
+put_and_get : printed_run (entry 1 (Put 5 50) New ∷ entry 2 (Get 5) (Value 50) ∷ []) ((5, 50) ∷ [])
+    ≡ codes "1 1.1 put 5 50 = new\n2 1.2 get 5 = 50\nleft 1\n5 50\nend\n"
 unfolding entry_line turn_text call_text reply_text left_line pair_line end_line digits
 put_and_get = refl

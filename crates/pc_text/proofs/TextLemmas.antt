@@ -1,5 +1,6 @@
 -- Commands that are written read back.
-use Rattle.std.proofs.Common.{◌≡◌, ℕ, suc, ◌+◌, ◌-◌, ◌<◌, ◌≤◌, ◌^◌, true, false, not, nat_lt, List, [], ◌∷◌, ◌++◌, length, get_or, map, None, Ok, refl, sym, ap, ◌∙◌, arith, All, append-nil, lit<}
+use Rattle.std.proofs.Common.{◌≡◌, ℕ, suc, ◌+◌, ◌-◌, ◌<◌, ◌≤◌, ◌^◌, true, false, not, nat_lt, List, [], ◌∷◌, ◌++◌}
+use Rattle.std.proofs.Common.{length, get_or, map, None, Ok, refl, sym, ap, ◌∙◌, arith, All, append-nil, lit<}
 use Rattle.std.specs.Prelude.{codes, ◌==◌}
 use Rattle.std.proofs.lemmas.Bool.{true≢false, ne_eqb, lt-ltb, le-leb, or_from, or_right, and_from, not-true}
 use Rattle.std.proofs.lemmas.Fmt.{digits_decimal, digits_value-decimal, decimal_nonempty}
@@ -38,20 +39,24 @@ fits n small = omega arith
 
 decimal_digit : (n : ℕ) → n ≤ GREATEST_NUMBER → All (IsInRange 48 57) (decimal n)
 decimal_digit n small = λ k d below.
-    let digit : IsInRange 48 57 (get_or (decimal n) k 0) = digits_decimal (numerals_by_value _ tells_by_index) n (fits n small) k below in
+    let digit : IsInRange 48 57 (get_or (decimal n) k 0) =
+    digits_decimal (numerals_by_value _ tells_by_index) n (fits n small) k below in
     rw (get_or_default_zero (decimal n) k d below) digit
 
 dark_digit : (byte : ℕ) → IsInRange 48 57 byte → is_blank byte ≡ false
-dark_digit byte digit = or_from _ _ (ne_eqb byte 32 (λ same. omega (arith, digit.0))) (ne_eqb byte 9 (λ same. omega (arith, digit.0)))
+dark_digit byte digit =
+    or_from _ _ (ne_eqb byte 32 (λ same. omega (arith, digit.0))) (ne_eqb byte 9 (λ same. omega (arith, digit.0)))
 
 plain_digit : (byte : ℕ) → IsInRange 48 57 byte → is_plain byte ≡ true
-plain_digit byte digit = or_right _ _ (and_from _ _ (le-leb 32 byte (omega (arith, digit.0))) (le-leb byte 126 (omega (arith, digit.1))))
+plain_digit byte digit =
+    or_right _ _ (and_from _ _ (le-leb 32 byte (omega (arith, digit.0))) (le-leb byte 126 (omega (arith, digit.1))))
 
 dark_decimal : (n : ℕ) → n ≤ GREATEST_NUMBER → All (λ byte. is_blank byte ≡ false) (decimal n)
 dark_decimal n small = λ k d below. dark_digit _ (decimal_digit n small k d below)
 
 plain_decimal : (n : ℕ) → n ≤ GREATEST_NUMBER → list_all is_plain (decimal n) ≡ true
-plain_decimal n small = list_all-from_AllPass is_plain (decimal n) (λ k d below. plain_digit _ (decimal_digit n small k d below))
+plain_decimal n small =
+    list_all-from_AllPass is_plain (decimal n) (λ k d below. plain_digit _ (decimal_digit n small k d below))
 
 -- what is written of a number is its number
 own : IsNumeralModel (λ ds. list_all is_ascii_digit ds ≡ true) (digits_value 10)
@@ -68,7 +73,8 @@ number_written n small =
 
 -- ---- words
 
-dark_word : (word : List ℕ) → list_all (λ byte. not (is_blank byte)) word ≡ true → All (λ byte. is_blank byte ≡ false) word
+dark_word : (word : List ℕ) → list_all (λ byte. not (is_blank byte)) word ≡ true
+    → All (λ byte. is_blank byte ≡ false) word
 dark_word word dark = λ k d below. not-true _ (AllPass-from_list_all (λ byte. not (is_blank byte)) word dark k d below)
 
 -- one word, and no blank
@@ -76,25 +82,32 @@ lone : (word : List ℕ) → 0 < length word → All (λ byte. is_blank byte ≡
 lone word some dark = ap words_of (sym (append-nil word)) ∙ words_of-word word [] some dark tt
 
 -- a word, a space, and more
-spaced : (word rest : List ℕ) → 0 < length word → All (λ byte. is_blank byte ≡ false) word → words_of (word ++ 32 ∷ rest) ≡ word ∷ words_of rest
-spaced word rest some dark = words_of-word word (32 ∷ rest) some dark refl ∙ ap (λ words. word ∷ words) (words_of-blank 32 rest refl)
+spaced : (word rest : List ℕ) → 0 < length word → All (λ byte. is_blank byte ≡ false) word
+    → words_of (word ++ 32 ∷ rest) ≡ word ∷ words_of rest
+spaced word rest some dark = words_of-word word (32 ∷ rest) some dark refl
+    ∙ ap (λ words. word ∷ words) (words_of-blank 32 rest refl)
 
 number_word : (n : ℕ) → n ≤ GREATEST_NUMBER → words_of (decimal n) ≡ decimal n ∷ []
 number_word n small = lone (decimal n) (decimal_nonempty n (fits n small)) (dark_decimal n small)
 
 -- ---- a line
 
-single : (word : List ℕ) (n : ℕ) → 0 < length word → list_all (λ byte. not (is_blank byte)) word ≡ true → n ≤ GREATEST_NUMBER → words_of (word ++ 32 ∷ decimal n) ≡ word ∷ decimal n ∷ []
-single word n some dark small = spaced word (decimal n) some (dark_word word dark) ∙ ap (λ words. word ∷ words) (number_word n small)
+single : (word : List ℕ) (n : ℕ) → 0 < length word → list_all (λ byte. not (is_blank byte)) word ≡ true
+    → n ≤ GREATEST_NUMBER → words_of (word ++ 32 ∷ decimal n) ≡ word ∷ decimal n ∷ []
+single word n some dark small = spaced word (decimal n) some (dark_word word dark)
+    ∙ ap (λ words. word ∷ words) (number_word n small)
 
-words_of_put : (key value : ℕ) → key ≤ GREATEST_NUMBER → value ≤ GREATEST_NUMBER → words_of (line_of (Put key value)) ≡ codes "put" ∷ decimal key ∷ decimal value ∷ []
+words_of_put : (key value : ℕ) → key ≤ GREATEST_NUMBER → value ≤ GREATEST_NUMBER
+    → words_of (line_of (Put key value)) ≡ codes "put" ∷ decimal key ∷ decimal value ∷ []
 words_of_put key value small light =
     spaced (codes "put") (decimal key ++ 32 ∷ decimal value) (lit< tt) (dark_word (codes "put") refl)
-    ∙ ap (λ words. codes "put" ∷ words) (spaced (decimal key) (decimal value) (decimal_nonempty key (fits key small)) (dark_decimal key small)
+    ∙ ap (λ words. codes "put" ∷ words)
+    (spaced (decimal key) (decimal value) (decimal_nonempty key (fits key small)) (dark_decimal key small)
     ∙ ap (λ words. decimal key ∷ words) (number_word value light))
 
 plain_line : (call : Call) → IsCallInRange call → list_all is_plain (line_of call) ≡ true
-plain_line (Put key value) in_range = list_all-append is_plain (decimal key) (32 ∷ decimal value) ∙ and_from _ _ (plain_decimal key in_range.0) (plain_decimal value in_range.1)
+plain_line (Put key value) in_range = list_all-append is_plain (decimal key) (32 ∷ decimal value)
+    ∙ and_from _ _ (plain_decimal key in_range.0) (plain_decimal value in_range.1)
 plain_line (Get key) in_range = plain_decimal key in_range
 plain_line (Remove key) in_range = plain_decimal key in_range
 plain_line (Ceil key) in_range = plain_decimal key in_range
@@ -102,19 +115,30 @@ plain_line (Floor key) in_range = plain_decimal key in_range
 
 class_of-line_of : (call : Call) → IsCallInRange call → class_of (line_of call) ≡ Command call
 class_of-line_of (Put key value) in_range =
-    plain_class (line_of (Put key value)) (codes "put") (decimal key ∷ decimal value ∷ []) (words_of_put key value in_range.0 in_range.1) (plain_line (Put key value) in_range) refl
-    ∙ rw (number_written key in_range.0, number_written value in_range.1, value_of key in_range.0, value_of value in_range.1) refl
+    plain_class (line_of (Put key value)) (codes "put") (decimal key ∷ decimal value ∷ [])
+    (words_of_put key value in_range.0 in_range.1) (plain_line (Put key value) in_range) refl
+    ∙ rw (
+      number_written key in_range.0,
+      number_written value in_range.1,
+      value_of key in_range.0,
+      value_of value
+          in_range.1,
+    ) refl
 class_of-line_of (Get key) in_range =
-    plain_class (line_of (Get key)) (codes "get") (decimal key ∷ []) (single (codes "get") key (lit< tt) refl in_range) (plain_line (Get key) in_range) refl
+    plain_class (line_of (Get key)) (codes "get") (decimal key ∷ [])
+    (single (codes "get") key (lit< tt) refl in_range) (plain_line (Get key) in_range) refl
     ∙ rw (number_written key in_range, value_of key in_range) refl
 class_of-line_of (Remove key) in_range =
-    plain_class (line_of (Remove key)) (codes "remove") (decimal key ∷ []) (single (codes "remove") key (lit< tt) refl in_range) (plain_line (Remove key) in_range) refl
+    plain_class (line_of (Remove key)) (codes "remove") (decimal key ∷ [])
+    (single (codes "remove") key (lit< tt) refl in_range) (plain_line (Remove key) in_range) refl
     ∙ rw (number_written key in_range, value_of key in_range) refl
 class_of-line_of (Ceil key) in_range =
-    plain_class (line_of (Ceil key)) (codes "ceil") (decimal key ∷ []) (single (codes "ceil") key (lit< tt) refl in_range) (plain_line (Ceil key) in_range) refl
+    plain_class (line_of (Ceil key)) (codes "ceil") (decimal key ∷ [])
+    (single (codes "ceil") key (lit< tt) refl in_range) (plain_line (Ceil key) in_range) refl
     ∙ rw (number_written key in_range, value_of key in_range) refl
 class_of-line_of (Floor key) in_range =
-    plain_class (line_of (Floor key)) (codes "floor") (decimal key ∷ []) (single (codes "floor") key (lit< tt) refl in_range) (plain_line (Floor key) in_range) refl
+    plain_class (line_of (Floor key)) (codes "floor") (decimal key ∷ [])
+    (single (codes "floor") key (lit< tt) refl in_range) (plain_line (Floor key) in_range) refl
     ∙ rw (number_written key in_range, value_of key in_range) refl
 
 -- ---- the lines
@@ -128,7 +152,8 @@ no_line_feed line plain = λ k d below. plain_apart _ 10 (AllPass-from_list_all 
 
 no_return : (line : List ℕ) → 0 < length line → list_all is_plain line ≡ true → strip_carriage_return line ≡ line
 no_return line some plain =
-    let last : (get_or line (length line - 1) 0 == 13) ≡ false = plain_apart _ 13 (AllPass-from_list_all is_plain line plain (length line - 1) 0 (omega arith)) refl in
+    let last : (get_or line (length line - 1) 0 == 13) ≡ false =
+    plain_apart _ 13 (AllPass-from_list_all is_plain line plain (length line - 1) 0 (omega arith)) refl in
     rw last refl
 
 some_bytes : (call : Call) → 0 < length (line_of call)
@@ -139,10 +164,13 @@ some_bytes (Ceil key) = omega arith
 some_bytes (Floor key) = omega arith
 
 -- a plain line is cut off whole
-lines_of-line : (line more : List ℕ) → 0 < length line → list_all is_plain line ≡ true → lines_of (line ++ 10 ∷ more) ≡ line ∷ lines_of more
+lines_of-line : (line more : List ℕ) → 0 < length line → list_all is_plain line ≡ true
+    → lines_of (line ++ 10 ∷ more) ≡ line ∷ lines_of more
 lines_of-line line more some plain =
-    ap (map strip_carriage_return) (ap without_empty_last (slice_split_at (λ byte. byte == 10) line 10 more (no_line_feed line plain) refl)
-    ∙ without_empty_last-more line (slice_split (λ byte. byte == 10) more) (omega (arith, length-slice_split (λ byte. byte == 10) more)))
+    ap (map strip_carriage_return)
+    (ap without_empty_last (slice_split_at (λ byte. byte == 10) line 10 more (no_line_feed line plain) refl)
+    ∙ without_empty_last-more line (slice_split (λ byte. byte == 10) more)
+    (omega (arith, length-slice_split (λ byte. byte == 10) more)))
     ∙ ap (λ first. first ∷ lines_of more) (no_return line some plain)
 
 abbrev commands_of : List Call → List LineClass
@@ -158,7 +186,8 @@ classes_of-text_of (call ∷ calls) in_range =
     ∙ ap (λ class. class ∷ classes_of more) (class_of-line_of call here)
     ∙ ap (λ classes. Command call ∷ classes) (classes_of-text_of calls (λ k d below. in_range (suc k) d (omega arith)))
 
-first_bad-commands_of : (calls : List Call) (line before : ℕ) → before + length calls ≤ MOST_COMMANDS → first_bad line before (commands_of calls) ≡ None
+first_bad-commands_of : (calls : List Call) (line before : ℕ) → before + length calls ≤ MOST_COMMANDS
+    → first_bad line before (commands_of calls) ≡ None
 first_bad-commands_of [] line before few = refl
 first_bad-commands_of (call ∷ calls) line before few =
     let room : nat_lt before MOST_COMMANDS ≡ true = lt-ltb before MOST_COMMANDS (omega arith) in

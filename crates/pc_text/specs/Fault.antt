@@ -1,7 +1,8 @@
 -- The status of each fault, and which fault a script's is.
 use Rattle.std.specs.Prelude.{ℕ}
 use Rattle.pc_text.specs.declared.fault.Fault.{Fault}
-use Rattle.pc_text.specs.declared.fault.Fault.TheVariants.{Usage, Script, Read, TooLargeInput, TooManySlots, Slots, Numbers, Memory, NotBuilt}
+use Rattle.pc_text.specs.declared.fault.Fault.TheVariants.{Usage, Script, Read, TooLargeInput, TooManySlots, Slots}
+use Rattle.pc_text.specs.declared.fault.Fault.TheVariants.{Numbers, Memory, NotBuilt}
 use Rattle.pc_text.specs.declared.script.ScriptFault.{ScriptFault}
 use Rattle.pc_text.specs.declared.script.ScriptFault.TheVariants.{Bad, Memory as NoMemory}
 

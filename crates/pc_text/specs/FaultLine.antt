@@ -4,9 +4,11 @@ use Rattle.std.specs.Fmt.{decimal}
 use Rattle.pc_model.specs.declared.cell.Counter.{Counter}
 use Rattle.pc_model.specs.declared.cell.Counter.TheVariants.{Attempt, Install, Stamp, Version, Epoch}
 use Rattle.pc_text.specs.declared.kind.ScriptKind.{ScriptKind}
-use Rattle.pc_text.specs.declared.kind.ScriptKind.TheVariants.{BadByte, UnknownWord, WordCount, BadNumber, TooManyClients, TooManyLines}
+use Rattle.pc_text.specs.declared.kind.ScriptKind.TheVariants.{BadByte, UnknownWord, WordCount, BadNumber}
+use Rattle.pc_text.specs.declared.kind.ScriptKind.TheVariants.{TooManyClients, TooManyLines}
 use Rattle.pc_text.specs.declared.fault.Fault.{Fault}
-use Rattle.pc_text.specs.declared.fault.Fault.TheVariants.{Usage, Script, Read, TooLargeInput, TooManySlots, Slots, Numbers, Memory, NotBuilt}
+use Rattle.pc_text.specs.declared.fault.Fault.TheVariants.{Usage, Script, Read, TooLargeInput, TooManySlots, Slots}
+use Rattle.pc_text.specs.declared.fault.Fault.TheVariants.{Numbers, Memory, NotBuilt}
 use Rattle.pc_text.specs.Printed.{turn_text}
 
 -- what is wrong with a line of a script

@@ -27,7 +27,8 @@ turn_text pass number = decimal pass ++ codes "." ++ decimal number
 
 -- the line of an entry at a place in the history, from 1
 unfoldable pub entry_line : ℕ → Entry → List ℕ
-entry_line place e = decimal place ++ codes " " ++ turn_text e.pass e.number ++ codes " " ++ call_text e.call ++ codes " = " ++ reply_text e.reply ++ codes "\n"
+entry_line place e = decimal place ++ codes " " ++ turn_text e.pass e.number ++ codes " " ++ call_text e.call
+    ++ codes " = " ++ reply_text e.reply ++ codes "\n"
 
 -- the lines of entries, the first at a place
 abbrev pub entry_lines : ℕ → List Entry → List ℕ

@@ -1,6 +1,7 @@
 -- The script that bytes spell, or the first line that is bad: the lines are classed one by one, and
 -- then the fault, the clients and each client's calls are read off the classes.
-use Rattle.std.specs.Prelude.{ℕ, ◌+◌, ◌==◌, nat_lt, max, if◌then◌else◌, List, [], ◌∷◌, map, Option, Some, None, Result, Ok, Err}
+use Rattle.std.specs.Prelude.{ℕ, ◌+◌, ◌==◌, nat_lt, max, if◌then◌else◌, List, [], ◌∷◌, map, Option, Some, None}
+use Rattle.std.specs.Prelude.{Result, Ok, Err}
 use Rattle.std.specs.List.{range_with_len}
 use Rattle.pc_model.specs.declared.call.Call.{Call}
 use Rattle.pc_text.specs.declared.limits.TheConstants.{MOST_COMMANDS}
@@ -46,7 +47,10 @@ calls_of client turn (Bad kind ∷ more) = calls_of client turn more
 -- the script of lines of which none is bad: client 1 has the first turn
 abbrev pub script_of_classes : List LineClass → ScriptValue
 script_of_classes lines =
-    record { clients = clients_of lines; calls = map (λ client. calls_of client 1 lines) (range_with_len 1 (clients_of lines)) }
+    record {
+      clients = clients_of lines;
+      calls = map (λ client. calls_of client 1 lines) (range_with_len 1 (clients_of lines));
+    }
 
 abbrev pub script_unless : Option (ℕ × ScriptKind) → ScriptValue → Result ScriptValue (ℕ × ScriptKind)
 script_unless None script = Ok script

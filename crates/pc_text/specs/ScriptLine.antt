@@ -1,13 +1,17 @@
 -- What a line of a script is, by its bytes alone.
-use Rattle.std.specs.Prelude.{ℕ, Bool, false, not, ◌&&◌, ◌||◌, ◌==◌, nat_lt, nat_le, if◌then◌else◌, is_none, List, [], ◌∷◌, length, map, slice_index, Option, Some, None}
+use Rattle.std.specs.Prelude.{ℕ, Bool, false, not, ◌&&◌, ◌||◌, ◌==◌, nat_lt, nat_le, if◌then◌else◌, is_none, List}
+use Rattle.std.specs.Prelude.{[], ◌∷◌, length, map, slice_index, Option, Some, None}
 use Rattle.std.specs.List.{list_all, list_any}
 use Rattle.std.specs.Str.Parse.{digits_value}
 use Rattle.pc_model.specs.declared.call.Call.TheVariants.{Put, Get, Remove, Ceil, Floor}
 use Rattle.pc_text.specs.declared.limits.TheConstants.{MOST_CLIENTS}
 use Rattle.pc_text.specs.declared.kind.ScriptKind.{ScriptKind}
-use Rattle.pc_text.specs.declared.kind.ScriptKind.TheVariants.{BadByte, UnknownWord, WordCount, BadNumber, TooManyClients}
+use Rattle.pc_text.specs.declared.kind.ScriptKind.TheVariants.{BadByte, UnknownWord, WordCount, BadNumber}
+use Rattle.pc_text.specs.declared.kind.ScriptKind.TheVariants.{TooManyClients}
 use Rattle.pc_text.specs.declared.line.Keyword.{Keyword}
-use Rattle.pc_text.specs.declared.line.Keyword.TheVariants.{Client as ClientWord, Put as PutWord, Get as GetWord, Remove as RemoveWord, Ceil as CeilWord, Floor as FloorWord}
+use Rattle.pc_text.specs.declared.line.Keyword.TheVariants.{Client as ClientWord, Put as PutWord, Get as GetWord}
+use Rattle.pc_text.specs.declared.line.Keyword.TheVariants.{Remove as RemoveWord, Ceil as CeilWord}
+use Rattle.pc_text.specs.declared.line.Keyword.TheVariants.{Floor as FloorWord}
 use Rattle.pc_text.specs.declared.line.LineClass.{LineClass}
 use Rattle.pc_text.specs.declared.line.LineClass.TheVariants.{Skip, Turn, Command, Bad}
 use Rattle.pc_text.specs.ScriptWords.{words_of, keyword_of, is_number}
@@ -72,7 +76,8 @@ bad_or None class = class
 
 -- what a line is that has plain bytes alone
 abbrev pub class_after : Option Keyword → List (List ℕ) → LineClass
-class_after first words = bad_or (first_kind (kinds_of first words)) (meaning_of first (map (λ word. digits_value 10 word) words))
+class_after first words =
+    bad_or (first_kind (kinds_of first words)) (meaning_of first (map (λ word. digits_value 10 word) words))
 
 -- a line is skipped where it has no words, or where the first one begins with # (35); a bad byte counts
 -- before the other kinds

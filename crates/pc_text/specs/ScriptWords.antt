@@ -1,5 +1,6 @@
 -- The words of a line, the six that begin a line of a script, and those that are numbers.
-use Rattle.std.specs.Prelude.{codes, ℕ, Bool, ◌&&◌, ◌||◌, ◌==◌, nat_lt, nat_le, if◌then◌else◌, List, length, Option, Some, None}
+use Rattle.std.specs.Prelude.{codes, ℕ, Bool, ◌&&◌, ◌||◌, ◌==◌, nat_lt, nat_le, if◌then◌else◌, List, length, Option}
+use Rattle.std.specs.Prelude.{Some, None}
 use Rattle.std.specs.Char.{is_ascii_digit}
 use Rattle.std.specs.List.{filter, list_all, slice_split}
 use Rattle.std.specs.Str.{bytes_eq}
@@ -29,7 +30,8 @@ keyword_of word =
 
 -- one or more digits whose value, in tens, is at most 999999999999999999
 abbrev pub is_number : List ℕ → Bool
-is_number word = nat_lt 0 (length word) && (list_all is_ascii_digit word && nat_le (digits_value 10 word) GREATEST_NUMBER)
+is_number word = nat_lt 0 (length word) &&
+    (list_all is_ascii_digit word && nat_le (digits_value 10 word) GREATEST_NUMBER)
 
 abbrev pub number_of : List ℕ → Option ℕ
 number_of word = if is_number word then Some (digits_value 10 word) else None

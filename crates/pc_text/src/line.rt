@@ -158,7 +158,8 @@ fn class_of_number(keyword: Keyword, number: u64) -> LineClass
 }
 
 fn class_of_client(client: u64) -> LineClass
-    ensures class { (word : List ℕ) → number_of word ≡ Some client → result ≡ class_after (Some Keyword.Client) (word ∷ []) }
+    ensures class { (word : List ℕ) → number_of word ≡ Some client
+        → result ≡ class_after (Some Keyword.Client) (word ∷ []) }
     ensures in_range { IsLineInRange result }
 {
     if client == 0 {

@@ -63,8 +63,8 @@ const OTHER_CALLS: &[Entry] = &[
     },
 ];
 
-const OTHER_LINES: &[u8] =
-    b"1 2.1 put 1 2 = was 3\n2 2.2 remove 0 = none\n3 2.3 ceil 10 = 11 12\n4 2.4 floor 999999999999999999 = 0 0\nleft 2\n1 2\n11 12\nend\n";
+const OTHER_LINES: &[u8] = b"1 2.1 put 1 2 = was 3\n2 2.2 remove 0 = none\n3 2.3 ceil 10 = 11 12\n\
+      4 2.4 floor 999999999999999999 = 0 0\nleft 2\n1 2\n11 12\nend\n";
 
 #[test]
 fn a_run_has_its_text_or_a_front_of_it(rt: HostRuntime) -> Result<(), Fail> {

@@ -1,5 +1,6 @@
 //! Reading a script from its bytes, in one pass.
-ghost use Rattle.std.specs.Prelude.{◌≡◌, ◌+◌, ◌-◌, ◌≤◌, [], ◌∷◌, ◌++◌, length, map, slice_index_or, slice_set, IfOk, IfErr, Ok, vec_len};
+ghost use Rattle.std.specs.Prelude.{◌≡◌, ◌+◌, ◌-◌, ◌≤◌, [], ◌∷◌, ◌++◌, length, map, slice_index_or, slice_set};
+ghost use Rattle.std.specs.Prelude.{IfOk, IfErr, Ok, vec_len};
 ghost use Rattle.std.specs.Int.{IsInRange};
 ghost use Rattle.std.specs.List.{All};
 ghost use Rattle.pc_text.specs.Script.{script_of};
@@ -79,7 +80,8 @@ fn empty_lists(alloc: Global) -> Result<Vec<Vec<Call>>, AllocError>
 fn add_call(lists: &mut Vec<Vec<Call>>, client: u32, call: Call) -> Result<(), AllocError>
     requires inside { IsInRange 1 (vec_len lists.old) client }
     ensures { IfOk result (λ _. let before = map (λ list. list.items) lists.old.items in
-        map (λ list. list.items) lists.new.items ≡ slice_set before (client - 1) (slice_index_or before (client - 1) [] ++ call ∷ [])) }
+        map (λ list. list.items) lists.new.items
+        ≡ slice_set before (client - 1) (slice_index_or before (client - 1) [] ++ call ∷ [])) }
 {
     let list = &mut lists[client as usize - 1];
     list.push(call)?;

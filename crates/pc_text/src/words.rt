@@ -6,7 +6,8 @@ ghost use Rattle.pc_text.specs.ScriptWords.{is_blank, words_of};
 
 /// The first word of a line, and what stands after it.
 pub fn first_word(line: &[u8]) -> Option<(&[u8], &[u8])>
-    ensures words { MatchOption result (words_of line.now ≡ []) (λ cut. words_of line.now ≡ cut.0.now ∷ words_of cut.1.now) }
+    ensures words { MatchOption result (words_of line.now ≡ [])
+        (λ cut. words_of line.now ≡ cut.0.now ∷ words_of cut.1.now) }
     ensures some_bytes { MatchOption result (words_of line.now ≡ []) (λ cut. 0 < length cut.0.now) }
 {
     let start = blanks_len(line);

@@ -10,12 +10,14 @@ pub returns-in_err-count-clause-few : goal.returns-in_err-count-clause-few
 returns-in_err-count-clause-few g c =
     let small = c.turns.invariant.read.small in
     takes_with_filled _ _ _ _ _ c.turns.filled _ _ _ c.turns.invariant.read
-    (omega (arith, c.deref_mut.ensures.len, c.in_ok-make_room.ensures.small, c.in_ok-make_room.ensures.room)) c.read_piece.ensures.few
+    (omega (arith, c.deref_mut.ensures.len, c.in_ok-make_room.ensures.small, c.in_ok-make_room.ensures.room))
+    c.read_piece.ensures.few
 
 pub returns-then-count-eq0-clause-few : goal.returns-then-count-eq0-clause-few
 returns-then-count-eq0-clause-few g c =
     takes_with_filled _ _ _ _ _ c.turns.filled _ _ _ c.turns.invariant.read
-    (omega (arith, c.deref_mut.ensures.len, c.in_ok-make_room.ensures.small, c.in_ok-make_room.ensures.room)) c.read_piece.ensures.few
+    (omega (arith, c.deref_mut.ensures.len, c.in_ok-make_room.ensures.small, c.in_ok-make_room.ensures.room))
+    c.read_piece.ensures.few
 
 pub returns-then-count-eq0-clause-whole : goal.returns-then-count-eq0-clause-whole
 returns-then-count-eq0-clause-whole g c =
@@ -26,6 +28,7 @@ returns-then-count-eq0-clause-whole g c =
     let cut = c.truncate.ensures.items ∙ take-take c.turns.filled _ _ (omega (arith, c.in_ok-make_room.ensures.room))
     ∙ take-append-le c.turns.filled c.read_piece.new.bytes _
     (omega (arith, c.read_piece.auto.bytes, c.deref_mut.ensures.len, c.in_ok-make_room.ensures.room)) in
-    let whole = whole_input _ _ _ (with_piece _ _ _ _ _ _ (subst (Consumes _ _) (sym same) h.takes) c.in_ok-count.ensures.piece)
+    let whole = whole_input _ _ _
+    (with_piece _ _ _ _ _ _ (subst (Consumes _ _) (sym same) h.takes) c.in_ok-count.ensures.piece)
     (c.in_ok-count.ensures.piece.end c.if-count-eq0.true) in
     subst (IsInput _) (ap (λ n. take n c.read_piece.new.bytes) none ∙ sym cut) whole

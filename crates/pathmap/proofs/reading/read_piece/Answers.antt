@@ -10,10 +10,12 @@ use Rattle.pathmap.proofs.reading.read_piece.Goals as goal
 front : (bytes part : List ℕ) (filled count : ℕ) → filled < length bytes → count ≤ length part
     → take (filled + count) (put_mid filled (length bytes - filled) bytes part) ≡ take filled bytes ++ take count part
 front bytes part filled count inside within =
-    let whole = take-put_mid filled (length bytes - filled) bytes part (filled + length part) (omega arith) (omega arith) in
+    let whole = take-put_mid filled (length bytes - filled) bytes part (filled + length part) (omega arith)
+    (omega arith) in
     let long : length (take filled bytes) ≡ filled = length-take-le filled bytes (omega arith) in
     sym (take-take (filled + count) (filled + length part) _ (omega arith)) ∙ ap (take (filled + count)) whole
-    ∙ ap (λ n. take (n + count) (take filled bytes ++ part)) (sym long) ∙ take-append-add (take filled bytes) part count
+    ∙ ap (λ n. take (n + count) (take filled bytes ++ part)) (sym long)
+    ∙ take-append-add (take filled bytes) part count
 
 pub returns-in-Ok-clause-piece : goal.returns-in-Ok-clause-piece
 returns-in-Ok-clause-piece g c = record {

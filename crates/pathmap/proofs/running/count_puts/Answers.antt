@@ -13,7 +13,8 @@ loop-call-preserved c =
     let calls : List Call = c.args.calls.now in
     let call : Call = get_or calls i (Put 0 0) in
     let inside : i < length calls = omega arith in
-    let more : puts_in (take (i + 1) calls) ≡ puts_in (take i calls) + one_if (is_put call) = ap puts_in (take_more calls i (Put 0 0) inside) ∙ puts_in-push (take i calls) call in
+    let more : puts_in (take (i + 1) calls) ≡ puts_in (take i calls) + one_if (is_put call) =
+    ap puts_in (take_more calls i (Put 0 0) inside) ∙ puts_in-push (take i calls) call in
     let small : one_if (is_put call) ≤ 1 = one_if-le-one (is_put call) in
     let before : c.loop-call.puts ≡ puts_in (take i calls) = c.loop-call.invariant.0 in
     let few : c.loop-call.puts ≤ i = c.loop-call.invariant.1 in

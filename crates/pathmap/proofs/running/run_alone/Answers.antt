@@ -7,5 +7,6 @@ use Rattle.pathmap.proofs.running.run_alone.Goals as goal
 pub returns : goal.returns
 returns c =
     let h = c.in_ok-history.ensures in
-    whole_run c.in_ok-cells.cells.slots c.args.calls.now c.run_calls.new.cells c.in_ok-history.history.items c.in_ok-pairs.pairs.items h
+    whole_run c.in_ok-cells.cells.slots c.args.calls.now c.run_calls.new.cells c.in_ok-history.history.items
+    c.in_ok-pairs.pairs.items h
     (c.in_ok-pairs.ensures plain (fold_of c.in_ok-history.history.items) h.tree)

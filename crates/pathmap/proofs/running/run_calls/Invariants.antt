@@ -4,4 +4,5 @@ use Rattle.pathmap.specs.Running.{HasRun}
 use Rattle.pathmap.proofs.running.run_calls.Given as goal
 
 abbrev pub invariant-loop-i : goal.invariant-loop-i
-invariant-loop-i l = HasRun l.initial.cells.slots (take l.i l.calls) l.cells l.history.items × (vec_len l.history ≡ l.i) × (length l.calls ≤ vec_capacity l.history)
+invariant-loop-i l = HasRun l.initial.cells.slots (take l.i l.calls) l.cells l.history.items
+    × (vec_len l.history ≡ l.i) × (length l.calls ≤ vec_capacity l.history)

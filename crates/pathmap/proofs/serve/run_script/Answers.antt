@@ -15,5 +15,6 @@ run_alone-requires-clause-in_range c =
     let inside : 0 < length lists = omega arith in
     let first = get_or-map (λ list. list.items) lists 0 c.index.result.now [] inside in
     let same : c.deref-calls.result.now ≡ slice_index_or c.args.script.now.calls 0 [] =
-    c.deref-calls.ensures.value ∙ ap (λ list. list.items) c.index.ensures ∙ sym first ∙ ap (λ (ls : List (List Call)). slice_index_or ls 0 []) whole in
+    c.deref-calls.ensures.value ∙ ap (λ list. list.items) c.index.ensures ∙ sym first
+    ∙ ap (λ (ls : List (List Call)). slice_index_or ls 0 []) whole in
     only_list_in_range c.args.script.now.calls c.requires.in_range c.requires.one_list c.deref-calls.result.now same

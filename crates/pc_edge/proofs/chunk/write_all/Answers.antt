@@ -1,5 +1,6 @@
 -- Each write sends the next part of the piece; where one fails, a front was sent.
-use Rattle.std.proofs.Common.{◌≡◌, ℕ, ◌+◌, ◌-◌, List, ◌++◌, Option, length, take, drop, sym, ap, ◌∙◌, subst, arith, length-drop}
+use Rattle.std.proofs.Common.{◌≡◌, ℕ, ◌+◌, ◌-◌, List, ◌++◌, Option, length, take, drop, sym, ap, ◌∙◌, subst, arith}
+use Rattle.std.proofs.Common.{length-drop}
 use Rattle.std.proofs.Math.Seq.{take-add}
 use Rattle.std.proofs.lemmas.List.{take-append-drop, take_all}
 use Rattle.std.proofs.lemmas.Result.{err_from_is_err_and}
@@ -18,10 +19,14 @@ next : (a b c : Option (List ℕ)) (piece : List ℕ) (at n : ℕ) → Appends a
 next a b c piece at n p q =
     let whole : take at piece ++ take n (take (length piece - at) (drop at piece)) ≡ take (at + n) piece =
     ap (λ l. take at piece ++ take n l) (rest piece at) ∙ sym (take-add at n piece) in
-    subst (Appends a c) whole (Appends-trans a b c (take at piece) (take n (take (length piece - at) (drop at piece))) p q)
+    subst (Appends a c) whole
+    (Appends-trans a b c (take at piece) (take n (take (length piece - at) (drop at piece))) p q)
 
-front : (a b c : Option (List ℕ)) (piece : List ℕ) (at : ℕ) → Appends a b (take at piece) → Keeps b c → AppendsFront a c piece
-front a b c piece at p k = subst (AppendsFront a c) (take-append-drop at piece) (AppendsFront-of_Appends a b c (take at piece) (drop at piece) p k)
+front : (a b c : Option (List ℕ)) (piece : List ℕ) (at : ℕ) → Appends a b (take at piece) → Keeps b c
+    → AppendsFront a c piece
+front a b c piece at p k =
+    subst (AppendsFront a c) (take-append-drop at piece)
+    (AppendsFront-of_Appends a b c (take at piece) (drop at piece) p k)
 
 pub loop-at-preserved : goal.loop-at-preserved
 loop-at-preserved g c = record {

@@ -14,7 +14,8 @@ place bytes None nowhere = position_or_len_is (λ byte. byte == 10) bytes (lengt
 place bytes (Some k) found = position_or_len_is (λ byte. byte == 10) bytes k 0 (omega (arith, found.0.high))
     (λ j below. false_from_ne_true _ (found.0.before j (omega arith) below)) (λ _. found.1)
 
-within : (bytes : List ℕ) (found : Option ℕ) → IsFirstByte (is_byte 10) bytes found → unwrap_or found (length bytes) ≤ length bytes
+within : (bytes : List ℕ) (found : Option ℕ) → IsFirstByte (is_byte 10) bytes found
+    → unwrap_or found (length bytes) ≤ length bytes
 within bytes None nowhere = omega arith
 within bytes (Some k) found = omega (arith, found.0.high)
 

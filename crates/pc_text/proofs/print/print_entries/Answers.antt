@@ -14,5 +14,6 @@ returns-in_err-print_line g c =
     let p = err_from_is_err_and c.from_residual.result c.from_residual.ensures.1 in
     let next = entry_lines-next c.args.history.now c.loop-i.i _ c.loop-i-test.true in
     let whole = entry_lines-split c.args.history.now (c.loop-i.i + 1) in
-    let failed = Writes-next _ _ _ _ _ c.args.chunk.now _ _ _ _ _ _ _ next c.loop-i.invariant c.in_err-print_line.ensures in
+    let failed = Writes-next _ _ _ _ _ c.args.chunk.now _ _ _ _ _ _ _ next c.loop-i.invariant
+    c.in_err-print_line.ensures in
     rw p.1 (Writes-cut _ _ _ _ c.args.chunk.now _ _ _ _ _ _ _ whole failed)

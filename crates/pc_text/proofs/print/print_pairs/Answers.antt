@@ -14,5 +14,6 @@ returns-in_err-print_line g c =
     let p = err_from_is_err_and c.from_residual.result c.from_residual.ensures.1 in
     let next = pair_lines-next c.args.pairs.now c.loop-key.key-index _ c.loop-key-test.true in
     let whole = pair_lines-split c.args.pairs.now (c.loop-key.key-index + 1) in
-    let failed = Writes-next _ _ _ _ _ c.args.chunk.now _ _ _ _ _ _ _ next c.loop-key.invariant c.in_err-print_line.ensures in
+    let failed = Writes-next _ _ _ _ _ c.args.chunk.now _ _ _ _ _ _ _ next c.loop-key.invariant
+    c.in_err-print_line.ensures in
     rw p.1 (Writes-cut _ _ _ _ c.args.chunk.now _ _ _ _ _ _ _ whole failed)

@@ -13,14 +13,16 @@ before_two : {K T U E F : Type 0} (held : K → Option (List ℕ)) (faults : K �
     (text one two rest : List ℕ) (e : E) (f : F) → Writes {T = T} held faults a b text rest (Err e)
     → Writes {T = U} held faults a b (text ++ one ++ two) [] (Err f)
 before_two {T = T} held faults a b text one two rest e f w =
-    Writes-failed held faults a b (text ++ one) two rest [] e f (Writes-failed {U = T} held faults a b text one rest rest e e w)
+    Writes-failed held faults a b (text ++ one) two rest [] e f
+    (Writes-failed {U = T} held faults a b text one rest rest e e w)
 
 -- and before three
 before_three : {K T U E F : Type 0} (held : K → Option (List ℕ)) (faults : K → ℕ) (a b : K)
     (text one two three rest : List ℕ) (e : E) (f : F) → Writes {T = T} held faults a b text rest (Err e)
     → Writes {T = U} held faults a b (text ++ one ++ two ++ three) [] (Err f)
 before_three {T = T} held faults a b text one two three rest e f w =
-    before_two held faults a b (text ++ one) two three rest e f (Writes-failed {U = T} held faults a b text one rest rest e e w)
+    before_two held faults a b (text ++ one) two three rest e f
+    (Writes-failed {U = T} held faults a b text one rest rest e e w)
 
 pub returns-in_err-print_entries : goal.returns-in_err-print_entries
 returns-in_err-print_entries g c =
@@ -43,7 +45,8 @@ returns-in_err-print_line g c =
 
 pub returns-in_err-print_pairs : goal.returns-in_err-print_pairs
 returns-in_err-print_pairs g c =
-    let p = err_from_is_err_and c.from_residual-in_err-print_pairs.result c.from_residual-in_err-print_pairs.ensures.1 in
+    let p = err_from_is_err_and c.from_residual-in_err-print_pairs.result
+    c.from_residual-in_err-print_pairs.ensures.1 in
     let left = left_line (length c.args.pairs.now) in
     let pairs = pair_lines c.args.pairs.now in
     let entries = entry_lines 1 c.args.history.now in
@@ -54,7 +57,8 @@ returns-in_err-print_pairs g c =
 
 pub returns-in_err-print_line-2 : goal.returns-in_err-print_line-2
 returns-in_err-print_line-2 g c =
-    let p = err_from_is_err_and c.from_residual-in_err-print_line-2.result c.from_residual-in_err-print_line-2.ensures.1 in
+    let p = err_from_is_err_and c.from_residual-in_err-print_line-2.result
+    c.from_residual-in_err-print_line-2.ensures.1 in
     let left = left_line (length c.args.pairs.now) in
     let pairs = pair_lines c.args.pairs.now in
     let entries = entry_lines 1 c.args.history.now in

@@ -9,4 +9,5 @@ returns c =
     map-set (λ list. list.items) c.args.lists.now.items place c.push.new.self
     ∙ ap (set (map (λ list. list.items) c.args.lists.now.items) place)
     (c.in_ok-push.ensures.items ∙ ap (λ calls. calls ++ c.args.call ∷ [])
-    (ap (λ list. list.items) c.index_mut-list.ensures.value ∙ sym (get_or-map (λ list. list.items) c.args.lists.now.items place c.index_mut-list.result.now [] below)))
+    (ap (λ list. list.items) c.index_mut-list.ensures.value
+    ∙ sym (get_or-map (λ list. list.items) c.args.lists.now.items place c.index_mut-list.result.now [] below)))

@@ -15,5 +15,7 @@ returns c =
     let below : start < length c.args.line.now = omega (arith, c.blanks_len-start.ensures.within) in
     let text : List ℕ = take (length c.args.line.now - start) (drop start c.args.line.now) in
     let end = c.word_len-end.result in
-    let begins = begins_word_at c.args.line.now text (take (length text - end) (drop end text)) start end c.blanks_len-start.ensures.place below (take_rest c.args.line.now start) c.word_len-end.ensures.place (take_rest text end) in
+    let begins = begins_word_at c.args.line.now text
+    (take (length text - end) (drop end text)) start end c.blanks_len-start.ensures.place below
+    (take_rest c.args.line.now start) c.word_len-end.ensures.place (take_rest text end) in
     record { words = begins.words; some_bytes = begins.some }

@@ -5,8 +5,10 @@ use Rattle.pc_text.proofs.words.word_len.Goals as goal
 
 pub returns-then-is_blank_byte-clause-place : goal.returns-then-is_blank_byte-clause-place
 returns-then-is_blank_byte-clause-place c =
-    sym (position_or_len_is is_blank c.args.bytes.now c.loop-i.i 0 (omega arith) c.loop-i.invariant (λ _. sym c.is_blank_byte.ensures ∙ c.if-is_blank_byte.true))
+    sym (position_or_len_is is_blank c.args.bytes.now c.loop-i.i 0 (omega arith) c.loop-i.invariant
+    (λ _. sym c.is_blank_byte.ensures ∙ c.if-is_blank_byte.true))
 
 pub returns-clause-place : goal.returns-clause-place
 returns-clause-place c =
-    sym (position_or_len_is is_blank c.args.bytes.now (length c.args.bytes.now) 0 (omega arith) (λ k below. c.loop-i.invariant k (omega arith)) (λ below. absurd (omega arith)))
+    sym (position_or_len_is is_blank c.args.bytes.now (length c.args.bytes.now) 0 (omega arith)
+    (λ k below. c.loop-i.invariant k (omega arith)) (λ below. absurd (omega arith)))
