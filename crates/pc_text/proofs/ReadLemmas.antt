@@ -21,7 +21,7 @@ use Rattle.pc_text.specs.declared.kind.ScriptKind.TheVariants.{TooManyLines}
 use Rattle.pc_text.specs.declared.line.LineClass.{LineClass}
 use Rattle.pc_text.specs.declared.line.LineClass.TheVariants.{Skip, Turn, Command, Bad}
 use Rattle.pc_text.specs.Lines.{without_empty_last, lines_of}
-use Rattle.pc_text.specs.Script.{classes_of, first_bad, clients_of, calls_of, script_of_classes, script_unless}
+use Rattle.pc_text.specs.Script.{classes_of, first_bad, clients_of, client_calls, script_of_classes, script_unless}
 use Rattle.pc_text.specs.Script.{script_of}
 use Rattle.pc_text.specs.ScriptFacts.{IsCallInRange, AreFew, AreInRange}
 use Rattle.pc_text.specs.ScriptLine.{class_of}
@@ -94,7 +94,7 @@ pub record HasRead (bytes rest : List ℕ) (lists : List (List Call)) (line turn
   pub faults : first_bad 1 0 (classes_of bytes) ≡ first_bad (line + 1) commands (classes_of rest)
   pub most : clients_of (classes_of bytes) ≡ max clients (clients_of (classes_of rest))
   pub calls : (place : ℕ)
-      → calls_of (place + 1) 1 (classes_of bytes) ≡ get_or lists place [] ++ calls_of (place + 1) turn
+      → client_calls (place + 1) 1 (classes_of bytes) ≡ get_or lists place [] ++ client_calls (place + 1) turn
       (classes_of rest)
   pub lines : line + length rest ≤ length bytes
   pub turn_in : IsInRange 1 MOST_CLIENTS turn
@@ -143,7 +143,7 @@ has_read_skip bytes rest rest' lists line turn clients commands read next = reco
   faults = read.faults ∙ ap (first_bad (line + 1) commands) next.classes;
   most = read.most ∙ ap (λ lines. max clients (clients_of lines)) next.classes;
   calls = λ place. read.calls place
-      ∙ ap (λ lines. get_or lists place [] ++ calls_of (place + 1) turn lines) next.classes;
+      ∙ ap (λ lines. get_or lists place [] ++ client_calls (place + 1) turn lines) next.classes;
   lines = omega (arith, read.lines, next.less);
   turn_in = read.turn_in;
   clients_in = read.clients_in;
@@ -161,7 +161,7 @@ has_read_turn bytes rest rest' lists line turn clients commands client read next
   faults = read.faults ∙ ap (first_bad (line + 1) commands) next.classes;
   most = read.most ∙ ap (λ lines. max clients (clients_of lines)) next.classes ∙ omega arith;
   calls = λ place. read.calls place
-      ∙ ap (λ lines. get_or lists place [] ++ calls_of (place + 1) turn lines) next.classes;
+      ∙ ap (λ lines. get_or lists place [] ++ client_calls (place + 1) turn lines) next.classes;
   lines = omega (arith, read.lines, next.less);
   turn_in = inside;
   clients_in = (omega (arith, read.clients_in.0), omega (arith, read.clients_in.1, inside.1));
@@ -178,19 +178,19 @@ with_call lists turn call = set lists (turn - 1) (get_or lists (turn - 1) [] ++ 
 -- the client's own list grows
 calls_own : (lists : List (List Call)) (turn place : ℕ) (call : Call) (more : List LineClass) → place + 1 ≡ turn
     → turn ≤ length lists
-    → get_or lists place [] ++ calls_of (place + 1) turn (Command call ∷ more)
-    ≡ get_or (with_call lists turn call) place [] ++ calls_of (place + 1) turn more
+    → get_or lists place [] ++ client_calls (place + 1) turn (Command call ∷ more)
+    ≡ get_or (with_call lists turn call) place [] ++ client_calls (place + 1) turn more
 calls_own lists turn place call more own inside =
     let test : (place + 1 == turn) ≡ true = eq-eqb (place + 1) turn own in
     let at : turn - 1 ≡ place = omega arith in
     rw (test, at, get_or-set_same lists place (get_or lists place [] ++ call ∷ []) [] (omega arith))
-    (sym (append_assoc (get_or lists place []) (call ∷ []) (calls_of (place + 1) turn more)))
+    (sym (append_assoc (get_or lists place []) (call ∷ []) (client_calls (place + 1) turn more)))
 
 -- and no other
 calls_other : (lists : List (List Call)) (turn place : ℕ) (call : Call) (more : List LineClass)
     → (place + 1 ≡ turn → ⊥) → 1 ≤ turn
-    → get_or lists place [] ++ calls_of (place + 1) turn (Command call ∷ more)
-    ≡ get_or (with_call lists turn call) place [] ++ calls_of (place + 1) turn more
+    → get_or lists place [] ++ client_calls (place + 1) turn (Command call ∷ more)
+    ≡ get_or (with_call lists turn call) place [] ++ client_calls (place + 1) turn more
 calls_other lists turn place call more other some =
     let test : (place + 1 == turn) ≡ false = ne_eqb (place + 1) turn other in
     let apart : place ≢ turn - 1 = λ same. other (omega arith) in
@@ -208,7 +208,7 @@ has_read_command bytes rest rest' lists line turn clients commands call read nex
       faults = read.faults ∙ ap (first_bad (line + 1) commands) next.classes ∙ rw test;
       most = read.most ∙ ap (λ lines. max clients (clients_of lines)) next.classes;
       calls = λ place. read.calls place
-          ∙ ap (λ lines. get_or lists place [] ++ calls_of (place + 1) turn lines) next.classes
+          ∙ ap (λ lines. get_or lists place [] ++ client_calls (place + 1) turn lines) next.classes
           ∙ elim (cases_eq (place + 1) turn) [
             | inl same ↦ calls_own lists turn place call (classes_of rest') same
                 (omega (arith, read.many, read.turn_in.1))
@@ -264,7 +264,7 @@ pub is_read : (bytes rest : List ℕ) (lists : List (List Call)) (line turn clie
 is_read bytes (byte ∷ rest) lists line turn clients commands read none = absurd (omega arith)
 is_read bytes [] lists line turn clients commands read none =
     let lines = classes_of bytes in
-    let of_client : ℕ → List Call = λ client. calls_of client 1 lines in
+    let of_client : ℕ → List Call = λ client. client_calls client 1 lines in
     let most : clients_of lines ≡ clients = read.most ∙ omega (arith, read.clients_in.0) in
     let long : length (take clients lists) ≡ clients =
     length-take-le clients lists (omega (arith, read.many, read.clients_in.1)) in

@@ -25,7 +25,7 @@ use Rattle.pc_text.specs.declared.limits.TheConstants.{GREATEST_NUMBER, MOST_COM
 use Rattle.pc_text.specs.declared.line.LineClass.{LineClass}
 use Rattle.pc_text.specs.declared.line.LineClass.TheVariants.{Command}
 use Rattle.pc_text.specs.Lines.{without_empty_last, lines_of}
-use Rattle.pc_text.specs.Script.{classes_of, first_bad, clients_of, calls_of}
+use Rattle.pc_text.specs.Script.{classes_of, first_bad, clients_of, client_calls}
 use Rattle.pc_text.specs.ScriptFacts.{IsCallInRange}
 use Rattle.pc_text.specs.ScriptLine.{is_plain, class_of}
 use Rattle.pc_text.specs.ScriptText.{line_of, text_of, ReadsBack}
@@ -197,11 +197,11 @@ clients_of-commands_of : (calls : List Call) → clients_of (commands_of calls) 
 clients_of-commands_of [] = refl
 clients_of-commands_of (call ∷ calls) = clients_of-commands_of calls
 
-calls_of-commands_of : (calls : List Call) → calls_of 1 1 (commands_of calls) ≡ calls
-calls_of-commands_of [] = refl
-calls_of-commands_of (call ∷ calls) = ap (λ more. call ∷ more) (calls_of-commands_of calls)
+client_calls-commands_of : (calls : List Call) → client_calls 1 1 (commands_of calls) ≡ calls
+client_calls-commands_of [] = refl
+client_calls-commands_of (call ∷ calls) = ap (λ more. call ∷ more) (client_calls-commands_of calls)
 
 pub reads_back : (calls : List Call) → ReadsBack calls
 reads_back calls few in_range =
     rw (classes_of-text_of calls in_range, first_bad-commands_of calls 1 0 (omega arith), clients_of-commands_of calls)
-    (ap (λ read. Ok (record { clients = 1; calls = read ∷ [] })) (calls_of-commands_of calls))
+    (ap (λ read. Ok (record { clients = 1; calls = read ∷ [] })) (client_calls-commands_of calls))

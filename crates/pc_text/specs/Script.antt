@@ -36,20 +36,20 @@ clients_of (Command call ∷ more) = clients_of more
 clients_of (Bad kind ∷ more) = clients_of more
 
 -- the calls of a client, where the turn is that of `turn`
-abbrev pub calls_of : ℕ → ℕ → List LineClass → List Call
-calls_of client turn [] = []
-calls_of client turn (Skip ∷ more) = calls_of client turn more
-calls_of client turn (Turn next ∷ more) = calls_of client next more
-calls_of client turn (Command call ∷ more) =
-    if client == turn then call ∷ calls_of client turn more else calls_of client turn more
-calls_of client turn (Bad kind ∷ more) = calls_of client turn more
+abbrev pub client_calls : ℕ → ℕ → List LineClass → List Call
+client_calls client turn [] = []
+client_calls client turn (Skip ∷ more) = client_calls client turn more
+client_calls client turn (Turn next ∷ more) = client_calls client next more
+client_calls client turn (Command call ∷ more) =
+    if client == turn then call ∷ client_calls client turn more else client_calls client turn more
+client_calls client turn (Bad kind ∷ more) = client_calls client turn more
 
 -- the script of lines of which none is bad: client 1 has the first turn
 abbrev pub script_of_classes : List LineClass → ScriptValue
 script_of_classes lines =
     record {
       clients = clients_of lines;
-      calls = map (λ client. calls_of client 1 lines) (range_with_len 1 (clients_of lines));
+      calls = map (λ client. client_calls client 1 lines) (range_with_len 1 (clients_of lines));
     }
 
 abbrev pub script_unless : Option (ℕ × ScriptKind) → ScriptValue → Result ScriptValue (ℕ × ScriptKind)
