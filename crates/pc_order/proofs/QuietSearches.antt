@@ -1,5 +1,5 @@
 -- A search asks for no exchange, whatever it is told.
-use Rattle.std.proofs.Common.{◌==◌, List, [], ◌∷◌}
+use Rattle.std.proofs.Common.{◌==◌}
 use Rattle.std.proofs.lemmas.Bool.{cond_both}
 use Rattle.pc_model.specs.declared.call.Reply.TheVariants.{Pair}
 use Rattle.pc_model.specs.declared.cell.Side.{Side}
@@ -10,8 +10,8 @@ use Rattle.pc_plan.specs.declared.plan.Told.TheVariants.{Begin, Version, Number}
 use Rattle.pc_plan.specs.declared.walk.Step.{Step}
 use Rattle.pc_plan.specs.declared.walk.Step.TheVariants.{Visit, Read, Here, Missing, Astray}
 use Rattle.pc_plan.specs.Quiet.{ChangesNothing, AsksForNoExchange}
-use Rattle.pc_plan.specs.Traces.{after}
 use Rattle.pc_plan.specs.Walks.{walk_step}
+use Rattle.pc_plan.proofs.Quiets.{quiet_by_steps}
 use Rattle.pc_order.specs.declared.search.Search.{Search}
 use Rattle.pc_order.specs.declared.search.SearchPhase.{SearchPhase}
 use Rattle.pc_order.specs.declared.search.SearchPhase.TheVariants.{Walking, Reading, Ended}
@@ -38,9 +38,5 @@ told_quiet s Reading Begin = tt
 told_quiet s Reading (Version v) = tt
 told_quiet s Ended t = tt
 
-after_quiet : (ts : List Told) (s : Search × Ask) → IsQuiet s → IsQuiet (after search_moves s ts)
-after_quiet [] s quiet = quiet
-after_quiet (t ∷ ts) s quiet = after_quiet ts (search_moves s.0 t) (told_quiet s.0 s.0.phase t)
-
 pub search_quiet : (side : Side) → AsksForNoExchange (search_of side) search_moves IsKey
-search_quiet side k ts key = after_quiet ts (search_moves (search_of side k) Begin) tt
+search_quiet side = quiet_by_steps (search_of side) search_moves IsKey (λ s t. told_quiet s s.phase t)
