@@ -1,27 +1,21 @@
--- How the plans end, and that they charge nothing.
-use Rattle.std.proofs.Common.{◌≡◌, ℕ, ◌==◌, if◌then◌else◌, ◌⊎◌, ⊎_elim, true, false, List, [], ◌∷◌, Option, Some, None}
-use Rattle.std.proofs.Common.{refl, sym, ap, ◌∙◌, subst}
-use Rattle.std.specs.Prelude.{IsSome, is_some}
+-- The plans charge nothing.
+use Rattle.std.proofs.Common.{ℕ, ◌==◌, [], ◌∷◌, Option, Some, None}
+use Rattle.std.proofs.Common.{refl}
 use Rattle.std.proofs.lemmas.Bool.{cond_both}
-use Rattle.pc_model.specs.declared.cell.Field.TheVariants.{Key as KeyField, Value as ValueField, Left as LeftLink}
-use Rattle.pc_model.specs.Map.{Pairs, IsKey, IsPair, value_at}
-use Rattle.pc_model.specs.Cells.{Cells, node_at}
+use Rattle.pc_model.specs.declared.cell.Field.TheVariants.{Value as ValueField, Left as LeftLink}
+use Rattle.pc_model.specs.Map.{IsKey, IsPair}
+use Rattle.pc_model.specs.Cells.{node_at}
 use Rattle.pc_model.specs.Debts.{has}
-use Rattle.pc_model.specs.Trees.{plain}
-use Rattle.pc_model.specs.TreeForms.{tree_form}
 use Rattle.pc_plan.specs.declared.plan.Ask.{Ask}
-use Rattle.pc_plan.specs.declared.plan.Ask.TheVariants.{Visit as AskVisit, Read as AskRead, Change, Answer}
+use Rattle.pc_plan.specs.declared.plan.Ask.TheVariants.{Visit as AskVisit, Read as AskRead}
 use Rattle.pc_plan.specs.declared.plan.Told.{Told}
 use Rattle.pc_plan.specs.declared.plan.Told.TheVariants.{Begin, Version, Number}
 use Rattle.pc_plan.specs.declared.walk.Above.{Above}
 use Rattle.pc_plan.specs.declared.walk.Walk.{Walk}
 use Rattle.pc_plan.specs.declared.walk.Step.{Step}
 use Rattle.pc_plan.specs.declared.walk.Step.TheVariants.{Visit, Read, Here, Missing, Astray}
-use Rattle.pc_plan.specs.EndLaws.{IsAnswer, IsChange, EndsInChange, IsFree, ChargesNothing}
+use Rattle.pc_plan.specs.EndLaws.{IsFree, ChargesNothing}
 use Rattle.pc_plan.specs.Walks.{on_way, way, walk_step}
-use Rattle.pc_plan.specs.Traces.{Event}
-use Rattle.pc_plan.specs.Runs.{reached, past_of}
-use Rattle.pc_plan.proofs.Courses.{IsOnCourse}
 use Rattle.pc_plan.proofs.Quiets.{asks_by_steps}
 use Rattle.pc_bst.specs.declared.put.PutPhase.{PutPhase}
 use Rattle.pc_bst.specs.declared.put.PutPhase.TheVariants.{Walking, Reading, Ended}
@@ -32,43 +26,8 @@ use Rattle.pc_bst.specs.declared.remove.RemovePhase.TheVariants.{ReadingValue, V
 use Rattle.pc_bst.specs.declared.remove.RemovePhase.TheVariants.{ReadingNextValue, ReadingNextRight, Ended as Gone}
 use Rattle.pc_bst.specs.declared.remove.BstRemove.{BstRemove}
 use Rattle.pc_bst.specs.Puts.{put_at, put_of, put_walked, put_told, put_moves}
-use Rattle.pc_bst.specs.PutLaws.{PutsRight, put_changes}
 use Rattle.pc_bst.specs.Removes.{remove_of, with_walk, with_value, remove_reads, remove_gives_up, visiting_below}
 use Rattle.pc_bst.specs.Removes.{going_below, chosen, following, remove_walked, remove_told, remove_moves}
-use Rattle.pc_bst.specs.RemoveCourses.{RemovesRight}
-use Rattle.pc_bst.specs.RemoveLaws.{remove_changes}
-
-put_never_answers : (slots : ℕ) (c : Cells) (ps : Pairs) (call : ℕ × ℕ) (past : List Event) (a : Ask)
-    → IsOnCourse slots c put_moves (PutsRight slots c ps call) past a → IsAnswer a → ⊥
-put_never_answers slots c ps call past (AskVisit n) h answers = answers
-put_never_answers slots c ps call past (AskRead n f) h answers = answers
-put_never_answers slots c ps call past (Change p) h answers = answers
-put_never_answers slots c ps call past (Answer r) h answers = h.1.1
-
-pub put_ends : EndsInChange put_of put_moves IsPair (tree_form plain) (λ call ps. Unit {0})
-put_ends slots c ps call ts ready pair such agrees answers =
-    put_never_answers slots c ps call (past_of put_of put_moves call ts) (reached put_of put_moves call ts).1
-    (put_changes slots c ps call ts ready pair agrees) answers
-
-not_both : (o : Option ℕ) → IsSome o → o ≡ None → ⊥
-not_both None some none = absurd (cc)
-not_both (Some x) some none = absurd (cc)
-
-remove_never_answers : (slots : ℕ) (c : Cells) (ps : Pairs) (k : ℕ) (past : List Event) (a : Ask)
-    → IsSome (value_at k ps) → IsOnCourse slots c remove_moves (RemovesRight slots c ps k) past a → IsAnswer a → ⊥
-remove_never_answers slots c ps k past (AskVisit n) some h answers = answers
-remove_never_answers slots c ps k past (AskRead n f) some h answers = answers
-remove_never_answers slots c ps k past (Change p) some h answers = answers
-remove_never_answers slots c ps k past (Answer r) some h answers = ⊎_elim (λ no. no) (λ none. not_both (value_at k ps)
-    some none) h.1.1
-
-pub remove_ends_in_change : EndsInChange remove_of remove_moves IsKey (tree_form plain) (λ k ps. IsSome
-    (value_at k ps))
-remove_ends_in_change slots c ps k ts ready key such agrees answers =
-    remove_never_answers slots c ps k (past_of remove_of remove_moves k ts) (reached remove_of remove_moves k ts).1
-    such (remove_changes slots c ps k ts ready key agrees) answers
-
--- Nothing is charged.
 
 abbrev IsFreePut : BstPut × Ask → Type 0
 IsFreePut s = IsFree s.1

@@ -1,21 +1,19 @@
 -- The laws of a get: its course on sound cells, and what it keeps whatever it is told.
-use Rattle.std.proofs.Common.{◌≡◌, ℕ, ◌+◌, ◌*◌, ◌<◌, ◌≤◌, ◌==◌, if◌then◌else◌, inl, ⊎_elim, List, [], ◌∷◌, Some, None}
-use Rattle.std.proofs.Common.{refl, sym, ap, ◌∙◌, subst, arith}
-use Rattle.std.proofs.lemmas.Bool.{eq-eqb, ne_eqb, cases_Bool, cond-true, cond-false}
+use Rattle.std.proofs.Common.{◌≡◌, ℕ, ◌+◌, ◌*◌, ◌==◌, inl, List, [], Some, None}
+use Rattle.std.proofs.Common.{refl, sym, ap, subst, arith}
+use Rattle.std.proofs.lemmas.Bool.{eq-eqb, ne_eqb, cond-true, cond-false, cond_both}
 use Rattle.pc_model.specs.declared.cell.Field.TheVariants.{Value as ValueField}
-use Rattle.pc_model.specs.declared.cell.Side.{Side}
 use Rattle.pc_model.specs.declared.call.Call.TheVariants.{Get}
 use Rattle.pc_model.specs.declared.cell.Field.TheVariants.{Key as KeyField}
 use Rattle.pc_model.specs.Map.{Pairs, IsKey, value_at, value_or_nothing}
 use Rattle.pc_model.specs.Cells.{Cells, IsSlot}
 use Rattle.pc_model.specs.Sides.{link_of}
-use Rattle.pc_model.specs.Forms.{Form}
 use Rattle.pc_model.specs.Trees.{plain, IsTreeNode, IsSearchTree}
 use Rattle.pc_model.specs.TreeForms.{tree_form}
 use Rattle.pc_model.proofs.HolePairs.{value_at-hole, value_at-empty_hole}
 use Rattle.pc_model.proofs.TreeFormLaws.{tree_form_laws}
 use Rattle.pc_plan.specs.declared.plan.Ask.{Ask}
-use Rattle.pc_plan.specs.declared.plan.Ask.TheVariants.{Visit as AskVisit, Read as AskRead, Change, Answer}
+use Rattle.pc_plan.specs.declared.plan.Ask.TheVariants.{Read as AskRead}
 use Rattle.pc_plan.specs.declared.plan.Told.{Told}
 use Rattle.pc_plan.specs.declared.plan.Told.TheVariants.{Begin, Version, Number}
 use Rattle.pc_plan.specs.declared.walk.Walk.{Walk}
@@ -23,11 +21,11 @@ use Rattle.pc_plan.specs.declared.walk.Step.{Step}
 use Rattle.pc_plan.specs.declared.walk.Step.TheVariants.{Visit, Read, Here, Missing, Astray}
 use Rattle.pc_plan.specs.declared.walk.Awaited.TheVariants.{Choice}
 use Rattle.pc_plan.specs.Terms.{Terms, map_terms}
-use Rattle.pc_plan.specs.Traces.{Event, learned, learned_along, after, reads_since_visit}
+use Rattle.pc_plan.specs.Traces.{Event, learned, learned_along, reads_since_visit}
 use Rattle.pc_plan.specs.Runs.{Runs, IsReady, reached}
-use Rattle.pc_plan.specs.Lawful.{IsWord, AreWords, IsLawfulAsk, IsLawful}
+use Rattle.pc_plan.specs.Lawful.{IsWord, IsLawfulAsk, IsLawful}
 use Rattle.pc_plan.specs.Laws.{PlanLaws}
-use Rattle.pc_plan.specs.Walks.{walk_of, on_way, way, walk_step}
+use Rattle.pc_plan.specs.Walks.{on_way, way, walk_step}
 use Rattle.pc_plan.specs.Quiet.{ChangesNothing, AsksForNoExchange}
 use Rattle.pc_plan.proofs.Courses.{Course, EndsRight, runs_by_course}
 use Rattle.pc_plan.proofs.Learning.{kept_along, is_some-seen}
@@ -109,15 +107,9 @@ walked_keeps past w (Here x) h =
     let one : reads_since_visit past ≡ 1 = h.2 in
     let reading : BstGet × Ask = (get_at w Reading, AskRead w.node ValueField) in
     let going : BstGet × Ask = (get_at (on_way w x) Walking, AskRead w.node (way w x)) in
-    ⊎_elim
-    (λ same. subst (GetKeeps past) (sym (cond-true (x == w.key) reading going same)) (
-      is_some-seen w.node w.version
-          past h.0.come.seen,
-      omega arith,
-    ))
-    (λ other. subst (GetKeeps past) (sym (cond-false (x == w.key) reading going other)) (goes_on past w x h.0.come
-    (omega arith)))
-    (cases_Bool (x == w.key))
+    cond_both (x == w.key) reading going (GetKeeps past)
+    (λ _. (is_some-seen w.node w.version past h.0.come.seen, omega arith))
+    (λ _. goes_on past w x h.0.come (omega arith))
 walked_keeps past w (Missing s link) h = tt
 walked_keeps past w Astray h = tt
 
@@ -166,8 +158,7 @@ quiet_walked g w (Read n f) = tt
 quiet_walked g w (Here x) =
     let reading : BstGet × Ask = (get_at w Reading, AskRead w.node ValueField) in
     let going : BstGet × Ask = (get_at (on_way w x) g.phase, AskRead w.node (way w x)) in
-    ⊎_elim (λ same. subst IsQuiet (sym (cond-true (x == w.key) reading going same)) tt)
-    (λ other. subst IsQuiet (sym (cond-false (x == w.key) reading going other)) tt) (cases_Bool (x == w.key))
+    cond_both (x == w.key) reading going IsQuiet (λ _. tt) (λ _. tt)
 quiet_walked g w (Missing s link) = tt
 quiet_walked g w Astray = tt
 

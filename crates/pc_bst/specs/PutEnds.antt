@@ -1,7 +1,6 @@
 -- The two exchanges of a put on a search tree that stands still: each ends right.
-use Rattle.std.proofs.Common.{◌≡◌, ◌≢◌, ℕ, ◌+◌, ◌%◌, ◌^◌, ◌<◌, ◌≤◌, ◌==◌, if◌then◌else◌, inl, inr, ⊎_elim, false, List}
-use Rattle.std.proofs.Common.{[], ◌∷◌, Some, None, refl, sym, ap, ◌∙◌, subst, arith}
-use Rattle.std.specs.Prelude.{IsSome}
+use Rattle.std.proofs.Common.{◌≡◌, ◌≢◌, ℕ, ◌+◌, ◌%◌, ◌^◌, ◌≤◌, ◌==◌, if◌then◌else◌, inl, ⊎_elim, false, List}
+use Rattle.std.proofs.Common.{[], ◌∷◌, refl, sym, ◌∙◌, subst, arith}
 use Rattle.pc_model.specs.declared.cell.Field.{Field}
 use Rattle.pc_model.specs.declared.cell.Field.TheVariants.{Version as VersionField, Key as KeyField}
 use Rattle.pc_model.specs.declared.cell.Field.TheVariants.{Value as ValueField, Left as LeftLink, Right as RightLink}
@@ -9,13 +8,12 @@ use Rattle.pc_model.specs.declared.cell.Field.TheVariants.{Parent, Height}
 use Rattle.pc_model.specs.declared.cell.Side.{Side}
 use Rattle.pc_model.specs.declared.cell.Side.TheVariants.{Left, Right}
 use Rattle.pc_model.specs.declared.call.Call.TheVariants.{Put}
-use Rattle.pc_model.specs.declared.owed.Settle.TheVariants.{Nothing}
 use Rattle.pc_model.specs.Map.{Pairs, put}
 use Rattle.pc_model.specs.Cells.{Cells, IsEven, IsOdd, IsSlot, field_number}
 use Rattle.pc_model.specs.Debts.{has}
 use Rattle.pc_model.specs.Exchanges.{applied}
 use Rattle.pc_model.specs.Sides.{link_of}
-use Rattle.pc_model.specs.Trees.{Tree, Empty, Fork, plain, IsTreeNode, IsSearchTree}
+use Rattle.pc_model.specs.Trees.{Tree, Empty, Fork, plain, IsSearchTree}
 use Rattle.pc_model.specs.TreeForms.{tree_form}
 use Rattle.pc_model.proofs.Holes.{Hole}
 use Rattle.pc_model.proofs.Insertion.{IsHung, IsRevalued, leaf_hung, value_changed as value_changes}
@@ -25,12 +23,10 @@ use Rattle.pc_plan.specs.declared.walk.Awaited.{Awaited}
 use Rattle.pc_plan.specs.declared.walk.Awaited.TheVariants.{Choice, Link}
 use Rattle.pc_plan.specs.declared.walk.Walk.{Walk}
 use Rattle.pc_plan.specs.declared.change.To.TheVariants.{Number as ToNumber, Fresh as ToFresh}
-use Rattle.pc_plan.specs.Planned.{Planned}
 use Rattle.pc_plan.specs.NodeChanges.{FieldChange, NodeChange, ByNodes, planned_by}
 use Rattle.pc_plan.specs.Terms.{map_terms}
 use Rattle.pc_plan.specs.Traces.{Event}
 use Rattle.pc_plan.specs.Runs.{fresh_fields, exchange_of}
-use Rattle.pc_plan.specs.Lawful.{Adds}
 use Rattle.pc_plan.proofs.Courses.{IsRightEnd}
 use Rattle.pc_plan.proofs.NodeWords.{AreFields, not_among}
 use Rattle.pc_plan.proofs.WrittenWords.{applied_else_word}

@@ -1,7 +1,7 @@
 -- The laws of a put: its course on sound cells, and what it keeps whatever it is told.
-use Rattle.std.proofs.Common.{◌≡◌, ℕ, ◌+◌, ◌*◌, ◌^◌, ◌<◌, ◌≤◌, ◌==◌, if◌then◌else◌, inl, inr, ⊎_elim, List, [], ◌∷◌}
-use Rattle.std.proofs.Common.{Some, None, refl, sym, ap, ◌∙◌, subst, arith}
-use Rattle.std.proofs.lemmas.Bool.{eq-eqb, ne_eqb, cases_Bool, cond-true, cond-false}
+use Rattle.std.proofs.Common.{◌≡◌, ℕ, ◌+◌, ◌*◌, ◌^◌, ◌<◌, ◌==◌, inl, List, [], ◌∷◌}
+use Rattle.std.proofs.Common.{Some, None, refl, sym, ap, subst, arith}
+use Rattle.std.proofs.lemmas.Bool.{eq-eqb, ne_eqb, cond-true, cond-false, cond_both}
 use Rattle.pc_model.specs.declared.cell.Field.TheVariants.{Key as KeyField, Value as ValueField}
 use Rattle.pc_model.specs.declared.cell.Side.{Side}
 use Rattle.pc_model.specs.declared.call.Call.TheVariants.{Put}
@@ -13,7 +13,7 @@ use Rattle.pc_model.specs.TreeForms.{tree_form}
 use Rattle.pc_model.proofs.HolePairs.{value_at-hole, value_at-empty_hole}
 use Rattle.pc_model.proofs.TreeFormLaws.{tree_form_laws}
 use Rattle.pc_plan.specs.declared.plan.Ask.{Ask}
-use Rattle.pc_plan.specs.declared.plan.Ask.TheVariants.{Read as AskRead, Change, Answer}
+use Rattle.pc_plan.specs.declared.plan.Ask.TheVariants.{Read as AskRead}
 use Rattle.pc_plan.specs.declared.plan.Told.{Told}
 use Rattle.pc_plan.specs.declared.plan.Told.TheVariants.{Begin, Version, Number}
 use Rattle.pc_plan.specs.declared.walk.Walk.{Walk}
@@ -23,11 +23,11 @@ use Rattle.pc_plan.specs.declared.walk.Awaited.TheVariants.{Choice}
 use Rattle.pc_plan.specs.NodeChanges.{planned_by}
 use Rattle.pc_plan.specs.Terms.{Terms, map_terms}
 use Rattle.pc_plan.specs.Traces.{Event, found, learned, learned_along, number_seen, reads_since_visit}
-use Rattle.pc_plan.specs.Runs.{Runs, IsReady, reached, past_of, AgreesWith}
+use Rattle.pc_plan.specs.Runs.{Runs, IsReady, reached}
 use Rattle.pc_plan.specs.Lawful.{IsWord, IsLawfulAsk, IsLawfulChange, IsLawful}
 use Rattle.pc_plan.specs.Laws.{PlanLaws}
-use Rattle.pc_plan.specs.Walks.{walk_of, on_way, way, walk_step}
-use Rattle.pc_plan.proofs.Courses.{Course, EndsRight, IsOnCourse, runs_by_course, along_course}
+use Rattle.pc_plan.specs.Walks.{on_way, way, walk_step}
+use Rattle.pc_plan.proofs.Courses.{Course, EndsRight, runs_by_course, changes_by_course, change_or_answer}
 use Rattle.pc_plan.proofs.Learning.{kept_along, is_some-seen, number_seen-here}
 use Rattle.pc_plan.proofs.LawfulNodes.{lawful_by_nodes}
 use Rattle.pc_plan.proofs.WalkCourses.{left_node, walk_at, walk_to_key}
@@ -35,8 +35,8 @@ use Rattle.pc_plan.proofs.WalkLawful.{HasCome, StepStands, Waits, walk_stands, w
 use Rattle.pc_bst.specs.declared.put.PutPhase.{PutPhase}
 use Rattle.pc_bst.specs.declared.put.PutPhase.TheVariants.{Walking, Reading, Ended}
 use Rattle.pc_bst.specs.declared.put.BstPut.{BstPut}
-use Rattle.pc_plan.specs.EndLaws.{IsChange}
-use Rattle.pc_bst.specs.Puts.{value_changed, leaf_added, put_at, put_of, put_gives_up, put_walked, put_told, put_moves}
+use Rattle.pc_plan.specs.EndLaws.{IsChange, EndsInChange}
+use Rattle.pc_bst.specs.Puts.{value_changed, leaf_added, put_at, put_of, put_walked, put_told, put_moves}
 use Rattle.pc_bst.specs.PutEnds.{link_field, value_end, leaf_end}
 
 -- On sound cells: the course of a put, which ends in a right exchange.
@@ -105,20 +105,14 @@ module _ (slots : ℕ) (c : Cells) (ps : Pairs) (call : ℕ × ℕ) (ready : IsR
       ))
 
 put_runs : Runs put_of put_moves IsPair put_terms (tree_form plain)
-put_runs = runs_by_course put_of put_moves IsPair put_terms (tree_form plain) PutsRight (λ slots c ps call past a h.
-    h.0)
-    (λ slots. 6 * slots + (1 + 3)) (λ slots. omega arith) (λ slots c ps call ready pair. put_course slots c ps call
-    ready pair)
+put_runs = runs_by_course put_of put_moves IsPair put_terms (tree_form plain) PutsRight
+    (λ slots c ps call past a h. h.0) (λ slots. 6 * slots + (1 + 3)) (λ slots. omega arith) put_course
 
 -- on sound cells a put never answers: it ends in an exchange
-pub put_changes : (slots : ℕ) (c : Cells) (ps : Pairs) (call : ℕ × ℕ) (ts : List Told)
-    → IsReady (tree_form plain) slots c ps → IsPair call → AgreesWith put_of put_moves c call ts
-    → IsOnCourse slots c put_moves (PutsRight slots c ps call) (past_of put_of put_moves call ts)
-    (reached put_of put_moves call ts).1
-put_changes = along_course put_of put_moves IsPair put_terms (tree_form plain) PutsRight (λ slots c ps call past a h.
-    h.0)
-    (λ slots. 6 * slots + (1 + 3)) (λ slots. omega arith) (λ slots c ps call ready pair. put_course slots c ps call
-    ready pair)
+pub put_ends : EndsInChange put_of put_moves IsPair (tree_form plain) (λ call ps. Unit {0})
+put_ends = changes_by_course put_of put_moves IsPair put_terms (tree_form plain) PutsRight
+    (λ slots c ps call past a h. h.0) (λ slots. 6 * slots + (1 + 3)) (λ slots. omega arith) put_course
+    (λ call ps. Unit {0}) (λ slots c ps call past a such h. change_or_answer a h.1)
 
 -- Whatever it is told.
 
@@ -195,19 +189,9 @@ walked_keeps past w value (Here x) key fits h =
     let one : reads_since_visit past ≡ 1 = h.2 in
     let reading : BstPut × Ask = (put_at w value Reading, AskRead w.node ValueField) in
     let going : BstPut × Ask = (put_at (on_way w x) value Walking, AskRead w.node (way w x)) in
-    ⊎_elim
-    (λ same. subst (PutKeeps past) (sym (cond-true (x == w.key) reading going same)) (
-      (key, fits),
-      refl,
-      h.0.come,
-      one,
-    ))
-    (λ other. subst (PutKeeps past) (sym (cond-false (x == w.key) reading going other)) (
-      (key, fits),
-      goes_on past w x
-          h.0.come (omega arith),
-    ))
-    (cases_Bool (x == w.key))
+    cond_both (x == w.key) reading going (PutKeeps past)
+    (λ _. ((key, fits), refl, h.0.come, one))
+    (λ _. ((key, fits), goes_on past w x h.0.come (omega arith)))
 walked_keeps past w value (Missing s link) key fits h = leaf_lawful past w s link value h.0 h.1 key fits
 walked_keeps past w value Astray key fits h = tt
 

@@ -1,6 +1,6 @@
 -- The course of a remove on a search tree that stands still.
-use Rattle.std.proofs.Common.{◌≡◌, ◌≢◌, ℕ, suc, ◌+◌, ◌*◌, ◌<◌, ◌≤◌, ◌==◌, ◌⊎◌, inl, inr, if◌then◌else◌, false, List}
-use Rattle.std.proofs.Common.{[], ◌∷◌, Some, None, refl, sym, ap, ◌∙◌, subst, arith}
+use Rattle.std.proofs.Common.{◌≡◌, ◌≢◌, ℕ, suc, ◌+◌, ◌*◌, ◌≤◌, ◌==◌, ◌⊎◌, inl, inr, List}
+use Rattle.std.proofs.Common.{[], ◌∷◌, Option, Some, None, IsSome, refl, sym, ap, ◌∙◌, subst, arith}
 use Rattle.std.proofs.lemmas.Bool.{eq-eqb, ne_eqb, cond-true, cond-false}
 use Rattle.pc_model.specs.declared.cell.Field.TheVariants.{Version as VersionField, Key as KeyField}
 use Rattle.pc_model.specs.declared.cell.Field.TheVariants.{Value as ValueField, Left as LeftLink, Right as RightLink}
@@ -8,7 +8,7 @@ use Rattle.pc_model.specs.declared.cell.Side.{Side}
 use Rattle.pc_model.specs.declared.cell.Side.TheVariants.{Left, Right}
 use Rattle.pc_model.specs.declared.call.Call.TheVariants.{Remove}
 use Rattle.pc_model.specs.declared.call.Reply.TheVariants.{Value}
-use Rattle.pc_model.specs.Map.{Pairs, IsRising, IsKey, value_at, value_or_nothing}
+use Rattle.pc_model.specs.Map.{Pairs, IsRising, value_at, value_or_nothing}
 use Rattle.pc_model.specs.Cells.{Cells, IsEven, IsSlot, IsNode, node_at}
 use Rattle.pc_model.specs.Debts.{has}
 use Rattle.pc_model.specs.Sides.{link_of}
@@ -28,7 +28,6 @@ use Rattle.pc_plan.specs.declared.walk.Walk.{Walk}
 use Rattle.pc_plan.specs.declared.walk.Step.{Step}
 use Rattle.pc_plan.specs.declared.walk.Step.TheVariants.{Here}
 use Rattle.pc_plan.specs.declared.walk.Awaited.TheVariants.{Choice}
-use Rattle.pc_plan.specs.NodeChanges.{ByNodes}
 use Rattle.pc_plan.specs.Terms.{Terms, map_terms}
 use Rattle.pc_plan.specs.Traces.{Event, visited, found}
 use Rattle.pc_plan.specs.Runs.{IsReady}
@@ -38,11 +37,11 @@ use Rattle.pc_plan.proofs.NodeWords.{not_among}
 use Rattle.pc_plan.proofs.Unseen.{IsUnseen, unseen_left}
 use Rattle.pc_plan.proofs.WalkCourses.{left_node, walk_at, walk_to_key}
 use Rattle.pc_bst.specs.declared.remove.RemovePhase.{RemovePhase}
-use Rattle.pc_bst.specs.declared.remove.RemovePhase.TheVariants.{Walking, ReadingLeft, ReadingValue, Visiting}
+use Rattle.pc_bst.specs.declared.remove.RemovePhase.TheVariants.{ReadingLeft, ReadingValue, Visiting}
 use Rattle.pc_bst.specs.declared.remove.RemovePhase.TheVariants.{ReadingNext, ReadingNextKey}
 use Rattle.pc_bst.specs.declared.remove.Next.{Next}
 use Rattle.pc_bst.specs.declared.remove.BstRemove.{BstRemove}
-use Rattle.pc_plan.specs.EndLaws.{IsChange}
+use Rattle.pc_plan.specs.EndLaws.{IsAnswer, IsChange}
 use Rattle.pc_bst.specs.Removes.{nothing_next, remove_of, with_walk, remove_reads, remove_gives_up, remove_ends}
 use Rattle.pc_bst.specs.Removes.{unlinked, visiting_below, going_below, chosen, following, remove_walked, remove_moves}
 use Rattle.pc_bst.specs.RemoveEnds.{unlink_end, lift_end}
@@ -50,10 +49,10 @@ use Rattle.pc_bst.specs.RemoveEnds.{unlink_end, lift_end}
 abbrev pub remove_terms : ℕ → Terms
 remove_terms k = map_terms (Remove k)
 
--- the end is right, and where the key is there it is an exchange
+-- the end is right, and it is an exchange where the key is there, and an answer where it isn't
 abbrev pub RemovesRight : ℕ → Cells → Pairs → ℕ → List Event → Ask → Type 0
 RemovesRight slots c ps k past a = EndsRight (tree_form plain) slots c ps (remove_terms k) past a
-    × (IsChange a ⊎ (value_at k ps ≡ None))
+    × ((IsChange a × IsSome (value_at k ps)) ⊎ (IsAnswer a × (value_at k ps ≡ None)))
 
 -- a link to another node than these is followed
 goes_below : (r : BstRemove) (a : Above) (n : ℕ) → n ≢ r.walk.node → n ≢ a.node
@@ -101,14 +100,23 @@ module _ (slots : ℕ) (c : Cells) (ps : Pairs) (k : ℕ) (ready : IsReady (tree
       phase = phase;
     }
 
+    there : value_at k ps ≡ Some (c n ValueField)
+    there = value_at-hole plain slots c ps tree.tree k above (link_of side) n l r tree.rising h key
+
+    is_there : IsSome (value_at k ps)
+    is_there = subst (λ (o : Option ℕ). IsSome o) (sym there) refl
+
     -- the old value is the map's reply
     right_reply : Value (c n ValueField) ≡ value_or_nothing (value_at k ps)
-    right_reply = sym (ap value_or_nothing (value_at-hole plain slots c ps tree.tree k above (link_of side) n l r
-        tree.rising h key))
+    right_reply = sym (ap value_or_nothing there)
 
     -- a node on the way to the successor, before it is visited
     abbrev on_way_to : Next → ℕ → ℕ → Side → Next
     on_way_to x m q s = record x { node = m; above = below q s }
+
+    -- and once it is visited
+    abbrev visited_next : Next → ℕ → ℕ → Side → Next
+    visited_next x m q s = record x { node = m; version = c m VersionField; above = below q s }
 
     -- from a visit of a node on the way to the successor on
     descend : (m : ℕ) (a b : Tree) (q : ℕ) (s : Side) (x : Next) (past : List Event) → IsNode slots q
@@ -122,14 +130,7 @@ module _ (slots : ℕ) (c : Cells) (ps : Pairs) (k : ℕ) (ready : IsReady (tree
         let here : IsTreeNode plain slots c q m = spelled.1 in
         let is : IsSlot slots m = here.slot in
         let is_m : IsNode slots m = (omega arith, omega arith) in
-        let y : Next = record {
-          node = m;
-          version = c m VersionField;
-          above = below q s;
-          key = x.key;
-          value
-              = x.value;
-        } in
+        let y : Next = visited_next x m q s in
         let ends : following (target y ReadingNext) (node_at (c m LeftLink)) ≡ (
           target y ReadingNextKey,
           AskRead m
@@ -151,7 +152,7 @@ module _ (slots : ℕ) (c : Cells) (ps : Pairs) (k : ℕ) (ready : IsReady (tree
                       (λ c' up. lifted_tree plain slots c ps tree k above (link_of side) n l r q (link_of s) m b c' h
                       (first q s m b (refl, refl, refl, refl)) up key),
                 ),
-                inl tt,
+                inl (tt, is_there),
               ),
             ),
           ),
@@ -164,14 +165,7 @@ module _ (slots : ℕ) (c : Cells) (ps : Pairs) (k : ℕ) (ready : IsReady (tree
         let lower : IsTreeNode plain slots c m i = spelled.2.1 in
         let is_i : IsSlot slots i = lower.slot in
         let sides : Apart c m (Fork i a b') b = apart_from_rising c m (Fork i a b') b rising in
-        let y : Next = record {
-          node = m;
-          version = c m VersionField;
-          above = below q s;
-          key = x.key;
-          value
-              = x.value;
-        } in
+        let y : Next = visited_next x m q s in
         let few : slots ≤ 61000 = ready.few in
         let named : node_at (c m LeftLink) ≡ Some i = ap node_at spelled.2.0 ∙ node_at-node i (omega arith)
         (omega arith) in
@@ -207,7 +201,7 @@ module _ (slots : ℕ) (c : Cells) (ps : Pairs) (k : ℕ) (ready : IsReady (tree
               is.unmarked h.spelled.0
               (λ c' un. unlinked_right plain slots c ps tree k above (link_of side) n r c' h key un),
         ),
-        inl tt,
+        inl (tt, is_there above side n Empty r h key),
       )
   chosen_goes (Fork m a b) Empty above side n x past h key unseen =
       let t : BstRemove = target above side n (Fork m a b) Empty h key x ReadingValue in
@@ -226,7 +220,7 @@ module _ (slots : ℕ) (c : Cells) (ps : Pairs) (k : ℕ) (ready : IsReady (tree
               is.unmarked h.spelled.0
               (λ c' un. unlinked_left plain slots c ps tree k above (link_of side) n (Fork m a b) c' h key un),
         ),
-        inl tt,
+        inl (tt, is_there above side n (Fork m a b) Empty h key),
       )
   chosen_goes (Fork m a b) (Fork i d e) above side n x past h key unseen =
       let l : Tree = Fork m a b in
@@ -291,6 +285,5 @@ module _ (slots : ℕ) (c : Cells) (ps : Pairs) (k : ℕ) (ready : IsReady (tree
       (λ q s a h past.
       let missing : value_at k ps ≡ None = value_at-empty_hole plain slots c ps tree.tree k q (link_of s) h in (
         (sym (ap value_or_nothing missing), without-empty_hole plain slots c ps tree.tree k q (link_of s) h, tt),
-        inr
-            missing,
+        inr (tt, missing),
       ))

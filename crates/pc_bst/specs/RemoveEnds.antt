@@ -1,18 +1,17 @@
 -- The exchanges of a remove on a search tree that stands still: each ends right.
-use Rattle.std.proofs.Common.{◌≡◌, ◌≢◌, ℕ, ◌+◌, ◌%◌, ◌^◌, ◌<◌, ◌==◌, if◌then◌else◌, inl, inr, ⊎_elim, true, false}
-use Rattle.std.proofs.Common.{List, [], ◌∷◌, Some, None, refl, sym, ap, ◌∙◌, subst, arith}
-use Rattle.std.proofs.lemmas.Bool.{cases_Bool, eqb-true, eqb-false, ne_eqb, cond-true, cond-false}
+use Rattle.std.proofs.Common.{◌≡◌, ◌≢◌, ℕ, ◌+◌, ◌%◌, ◌^◌, ◌==◌, if◌then◌else◌, inl, inr, ⊎_elim}
+use Rattle.std.proofs.Common.{List, [], ◌∷◌, None, refl, sym, ◌∙◌, subst, arith}
+use Rattle.std.proofs.lemmas.Bool.{eqb-true, eqb-false, ne_eqb, cond_both}
 use Rattle.pc_model.specs.declared.cell.Field.{Field}
 use Rattle.pc_model.specs.declared.cell.Field.TheVariants.{Version as VersionField, Key as KeyField}
-use Rattle.pc_model.specs.declared.cell.Field.TheVariants.{Value as ValueField, Left as LeftLink, Right as RightLink}
+use Rattle.pc_model.specs.declared.cell.Field.TheVariants.{Value as ValueField, Right as RightLink}
 use Rattle.pc_model.specs.declared.cell.Field.TheVariants.{Parent}
 use Rattle.pc_model.specs.declared.cell.Side.{Side}
 use Rattle.pc_model.specs.declared.cell.Side.TheVariants.{Left, Right}
 use Rattle.pc_model.specs.declared.call.Call.TheVariants.{Remove}
-use Rattle.pc_model.specs.declared.call.Reply.TheVariants.{Value}
 use Rattle.pc_model.specs.Map.{Pairs, without}
 use Rattle.pc_model.specs.Cells.{Cells, IsEven, IsOdd, field_number}
-use Rattle.pc_model.specs.Debts.{has, AreDifferent}
+use Rattle.pc_model.specs.Debts.{AreDifferent}
 use Rattle.pc_model.specs.Exchanges.{Visited, applied}
 use Rattle.pc_model.specs.Sides.{link_of}
 use Rattle.pc_model.specs.Trees.{plain, IsSearchTree}
@@ -25,10 +24,10 @@ use Rattle.pc_plan.specs.Terms.{map_terms}
 use Rattle.pc_plan.specs.Traces.{Event}
 use Rattle.pc_plan.specs.Runs.{exchange_of}
 use Rattle.pc_plan.proofs.Courses.{IsRightEnd}
-use Rattle.pc_plan.proofs.NodeWords.{AreFields, not_among, looked_up, HaveFields, nodes_in}
+use Rattle.pc_plan.proofs.NodeWords.{AreFields, not_among, looked_up, HaveFields}
 use Rattle.pc_plan.proofs.WrittenWords.{applied_else_word}
 use Rattle.pc_plan.proofs.LawfulNodes.{applied_node, applied_mark, looked_up-here, parity_by_nodes}
-use Rattle.pc_bst.specs.Removes.{renumbered}
+use Rattle.pc_bst.specs.Removes.{renumbered, removing}
 use Rattle.pc_bst.specs.PutEnds.{link_field}
 
 -- the key and the value of a node change, and a link of it
@@ -65,14 +64,7 @@ module _ (slots : ℕ) (c : Cells) (ps : Pairs) (k : ℕ) (past : List Event) (s
     mark = record { node = n; version = c n VersionField }
 
     abbrev pub unlinking : ByNodes
-    unlinking = record {
-      nodes = above_change ∷ [];
-      mark = Some mark;
-      fresh = None;
-      charged = [];
-      reply = Value
-          (c n ValueField);
-    }
+    unlinking = removing (above_change ∷ []) mark (c n ValueField)
 
     abbrev link : IsLinkAlone (link_of s)
     link = link_alone (link_of s) (link_of-is_link s)
@@ -137,14 +129,7 @@ module _ (slots : ℕ) (c : Cells) (ps : Pairs) (k : ℕ) (past : List Event) (s
     }
 
     abbrev pub lifting_one : ByNodes
-    lifting_one = record {
-      nodes = one_change ∷ [];
-      mark = Some next_mark;
-      fresh = None;
-      charged = [];
-      reply = Value
-          (c n ValueField);
-    }
+    lifting_one = removing (one_change ∷ []) next_mark (c n ValueField)
 
     one_different : AreDifferent (n ∷ m ∷ [])
     one_different = (not_among n m [] (λ e. not_n (sym e)) refl, (refl, tt))
@@ -190,13 +175,7 @@ module _ (slots : ℕ) (c : Cells) (ps : Pairs) (k : ℕ) (past : List Event) (s
     lower_change = record { node = q; version = c q VersionField; fields = relink ∷ [] }
 
     abbrev pub lifting_two : ByNodes
-    lifting_two = record {
-      nodes = upper_change ∷ lower_change ∷ [];
-      mark = Some next_mark;
-      fresh = None;
-      charged = [];
-      reply = Value (c n ValueField);
-    }
+    lifting_two = removing (upper_change ∷ lower_change ∷ []) next_mark (c n ValueField)
 
     module _ (apart : q ≢ n) where
       two_different : AreDifferent (n ∷ q ∷ m ∷ [])
@@ -242,43 +221,28 @@ module _ (slots : ℕ) (c : Cells) (ps : Pairs) (k : ℕ) (past : List Event) (s
 
     -- the exchange of a lift, as the plan asks for it
     abbrev pub lifting : ByNodes
-    lifting = record {
-      nodes = if q == n then one_change ∷ [] else upper_change ∷ lower_change ∷ [];
-      mark = Some next_mark;
-      fresh = None;
-      charged = [];
-      reply = Value (c n ValueField);
-    }
+    lifting = removing (if q == n then one_change ∷ [] else upper_change ∷ lower_change ∷ []) next_mark
+        (c n ValueField)
 
     pub lift_end : c n KeyField ≡ k → c q (link_of s) ≡ m → ((c' : Cells) → IsLifted plain c c' n q (link_of s) m
         → IsSearchTree plain slots c' (without k ps)) → RightEnd lifting
     lift_end key hangs leaves =
-        let By : List NodeChange → Type 0 = λ nodes. RightEnd (record {
-          nodes = nodes;
-          mark = Some next_mark;
-          fresh
-              = None;
-          charged = [];
-          reply = Value (c n ValueField);
-        }) in
-        ⊎_elim
+        let By : List NodeChange → Type 0 = λ nodes. RightEnd (removing nodes next_mark (c n ValueField)) in
+        cond_both (q == n) (one_change ∷ []) (upper_change ∷ lower_change ∷ []) By
         (λ same. let e : q ≡ n = eqb-true q n same in
-        subst By (sym (cond-true (q == n) (one_change ∷ []) (upper_change ∷ lower_change ∷ []) same))
-        (record {
+        record {
           changes = (refl, (key, (refl, (subst (λ (x : ℕ). c x (link_of s) ≡ m) e hangs, (refl, tt)))));
           taken = tt;
           leaves = leaves (left_by lifting_one) (subst (λ (x : ℕ). IsLifted plain c (left_by lifting_one) n x
               (link_of s) m) (sym e) one_lifted);
           charges = λ j debt. absurd debt;
           settles = tt;
-        }))
+        })
         (λ differs. let apart : q ≢ n = eqb-false q n differs in
-        subst By (sym (cond-false (q == n) (one_change ∷ []) (upper_change ∷ lower_change ∷ []) differs))
-        (record {
+        record {
           changes = (refl, (key, (refl, (refl, (hangs, (refl, tt))))));
           taken = tt;
           leaves = leaves (left_by lifting_two) (two_lifted apart);
           charges = λ j debt. absurd debt;
           settles = tt;
-        }))
-        (cases_Bool (q == n))
+        })

@@ -1,12 +1,10 @@
 -- What a remove keeps whatever it is told.
-use Rattle.std.proofs.Common.{◌≡◌, ◌≢◌, ℕ, suc, ◌^◌, ◌<◌, ◌≤◌, ◌==◌, ◌⊎◌, inl, inr, ⊎_elim, if◌then◌else◌, false, List}
+use Rattle.std.proofs.Common.{◌≡◌, ◌≢◌, ℕ, ◌^◌, ◌<◌, ◌==◌, inl, inr, false, List}
 use Rattle.std.proofs.Common.{[], ◌∷◌, ◌++◌, Option, Some, None, refl, sym, ap, ◌∙◌, subst, arith}
-use Rattle.std.specs.Prelude.{IsSome}
-use Rattle.std.proofs.lemmas.Bool.{cases_Bool, eqb-true, eqb-false, cond-true, cond-false}
+use Rattle.std.proofs.lemmas.Bool.{eqb-true, eqb-false, cond_both}
 use Rattle.pc_model.specs.declared.cell.Field.{Field}
 use Rattle.pc_model.specs.declared.cell.Field.TheVariants.{Key as KeyField, Value as ValueField, Left as LeftLink}
 use Rattle.pc_model.specs.declared.cell.Field.TheVariants.{Right as RightLink}
-use Rattle.pc_model.specs.declared.cell.Side.{Side}
 use Rattle.pc_model.specs.declared.cell.Side.TheVariants.{Left, Right}
 use Rattle.pc_model.specs.Map.{IsKey}
 use Rattle.pc_model.specs.Cells.{field_number, node_at}
@@ -25,25 +23,24 @@ use Rattle.pc_plan.specs.NodeChanges.{NodeChange, planned_by}
 use Rattle.pc_plan.specs.Traces.{Event, visited, found, learned, learned_along, version_seen, number_seen}
 use Rattle.pc_plan.specs.Traces.{reads_since_visit}
 use Rattle.pc_plan.specs.Runs.{reached}
-use Rattle.pc_plan.specs.Lawful.{WasToldOf, IsWord, IsLawfulAsk, IsLawfulChange, IsLawful}
+use Rattle.pc_plan.specs.Lawful.{IsWord, IsLawfulAsk, IsLawfulChange, IsLawful}
 use Rattle.pc_plan.specs.Walks.{on_way, way, walk_step}
 use Rattle.pc_plan.proofs.Learning.{kept_along, is_some-seen, version_seen-here, version_seen-else, number_seen-here}
 use Rattle.pc_plan.proofs.Learning.{number_seen-visit, number_seen-else, number_seen-other, side_is_link}
 use Rattle.pc_plan.proofs.Learning.{was_told-seen}
 use Rattle.pc_plan.proofs.NodeWords.{not_among, among_not}
-use Rattle.pc_plan.proofs.LawfulNodes.{IsLawfulByNodes, lawful_by_nodes}
+use Rattle.pc_plan.proofs.LawfulNodes.{lawful_by_nodes}
 use Rattle.pc_plan.proofs.WalkLawful.{HasCome, HasComeBelow, ToldAbove, StepStands, Waits, walk_stands, waits_lawful}
 use Rattle.pc_plan.proofs.WalkLawful.{goes_on, above_visit, above_read, come_read, below_read}
 use Rattle.pc_bst.specs.declared.remove.RemovePhase.{RemovePhase}
 use Rattle.pc_bst.specs.declared.remove.RemovePhase.TheVariants.{Walking, ReadingLeft, ReadingRight, ReadingValue}
 use Rattle.pc_bst.specs.declared.remove.RemovePhase.TheVariants.{Visiting, ReadingNext, ReadingNextKey}
 use Rattle.pc_bst.specs.declared.remove.RemovePhase.TheVariants.{ReadingNextValue, ReadingNextRight, Ended}
-use Rattle.pc_bst.specs.declared.remove.Next.{Next}
 use Rattle.pc_bst.specs.declared.remove.BstRemove.{BstRemove}
 use Rattle.pc_bst.specs.PutEnds.{link_field}
 use Rattle.pc_bst.specs.RemoveEnds.{lifted_fields_differ}
-use Rattle.pc_bst.specs.Removes.{remove_of, in_phase, with_walk, remove_reads, remove_gives_up, remove_ends, unlinked}
-use Rattle.pc_bst.specs.Removes.{lifted_fields, relinked, lifted_nodes, lifted, visiting_below, going_below, chosen}
+use Rattle.pc_bst.specs.Removes.{remove_of, in_phase, with_walk, remove_reads, remove_gives_up, unlinked}
+use Rattle.pc_bst.specs.Removes.{lifted_fields, relinked, lifted, visiting_below, going_below, chosen}
 use Rattle.pc_bst.specs.Removes.{following, remove_walked, remove_told, remove_moves}
 
 -- the walk is at the node with the key, and was told of it
@@ -177,17 +174,14 @@ lift_lawful past r right h key value fits =
     } ∷ [] in
     let two : List NodeChange = record { node = t; version = r.walk.version; fields = lifted_fields r }
     ∷ record { node = q; version = r.next.above.version; fields = relinked r right } ∷ [] in
-    let By : List NodeChange → Type 0 = λ nodes. IsLawfulChange past (planned_by (record (lifted r right) {
-      nodes
-          = nodes;
-    })) in
+    let By : List NodeChange → Type 0 = λ nodes. IsLawfulChange past
+    (planned_by (record (lifted r right) { nodes = nodes })) in
     let not_t : t ≢ m = λ e. h.1.other (sym e) in
-    ⊎_elim
+    cond_both (q == t) one two By
     (λ same. let e : q ≡ t = eqb-true q t same in
     let link : number_seen t (link_of r.next.above.side) past ≡ Some m = subst (λ (x : ℕ). number_seen x
     (link_of r.next.above.side) past ≡ Some m) e h.1.by_link.link in
-    subst By (sym (cond-true (q == t) one two same))
-    (lawful_by_nodes past (record (lifted r right) { nodes = one }) (record {
+    lawful_by_nodes past (record (lifted r right) { nodes = one }) (record {
       some = λ e. absurd (cc);
       few = omega arith;
       nodes = (
@@ -209,10 +203,9 @@ lift_lawful past r right h key value fits =
       different = (not_among t m [] not_t refl, (refl, tt));
       fresh = tt;
       few_charges = omega arith;
-    })))
+    }))
     (λ differs. let other : q ≢ t = eqb-false q t differs in
-    subst By (sym (cond-false (q == t) one two differs))
-    (lawful_by_nodes past (record (lifted r right) { nodes = two }) (record {
+    lawful_by_nodes past (record (lifted r right) { nodes = two }) (record {
       some = λ e. absurd (cc);
       few = omega arith;
       nodes = (
@@ -243,8 +236,7 @@ lift_lawful past r right h key value fits =
       );
       fresh = tt;
       few_charges = omega arith;
-    })))
-    (cases_Bool (q == t))
+    }))
 
 -- The steps
 
@@ -252,16 +244,13 @@ lift_lawful past r right h key value fits =
 goes_below_keeps : (past : List Event) (r : BstRemove) (a : Above) (n : ℕ) → IsToldTarget past r.walk r.value
     → version_seen a.node past ≡ Some a.version → a.version < 2 ^ 60
     → number_seen a.node (link_of a.side) past ≡ Some n → n ≢ 0 → RemoveKeeps past (going_below r a n)
-goes_below_keeps past r a n target seen small link not_0 = ⊎_elim
-    (λ back. subst (RemoveKeeps past) (sym (cond-true (has n (r.walk.node ∷ a.node ∷ [])) (remove_gives_up r)
-    (visiting_below r a n, AskVisit n) back)) tt)
+goes_below_keeps past r a n target seen small link not_0 =
+    cond_both (has n (r.walk.node ∷ a.node ∷ [])) (remove_gives_up r) (visiting_below r a n, AskVisit n)
+    (RemoveKeeps past) (λ _. tt)
     (λ new. let other : (n ≢ r.walk.node) × (has n (a.node ∷ []) ≡ false) = among_not n r.walk.node (a.node ∷ [])
     new in
     let apart : n ≢ a.node = (among_not n a.node [] other.1).0 in
-    subst (RemoveKeeps past) (sym (cond-false (has n (r.walk.node ∷ a.node ∷ [])) (remove_gives_up r)
-    (visiting_below r a n, AskVisit n) new))
     (refl, target, record { seen = seen; small = small; link = link; apart = apart }, other.0, not_0))
-    (cases_Bool (has n (r.walk.node ∷ a.node ∷ [])))
 
 chosen_keeps : (past : List Event) (r : BstRemove) (left right : Option ℕ) → HasComeBelow past r.walk
     → IsToldTarget past r.walk r.value → Fits r.left → Fits r.right
@@ -292,13 +281,9 @@ walked_keeps past r w (Here x) h =
     let reading : BstRemove × Ask = remove_reads at ReadingLeft w.node LeftLink in
     let going : BstRemove × Ask = (with_walk (in_phase r Walking) (on_way w x), AskRead w.node (way w x)) in
     let one : reads_since_visit past ≡ 1 = h.2 in
-    ⊎_elim
-    (λ same. let e : x ≡ w.key = eqb-true x w.key same in
-    subst (RemoveKeeps past) (sym (cond-true (x == w.key) reading going same))
-    ((refl, one), record { below = h.0; key = h.1 ∙ ap Some e }))
-    (λ other. subst (RemoveKeeps past) (sym (cond-false (x == w.key) reading going other)) (goes_on past w x h.0.come
-    (omega arith)))
-    (cases_Bool (x == w.key))
+    cond_both (x == w.key) reading going (RemoveKeeps past)
+    (λ same. ((refl, one), record { below = h.0; key = h.1 ∙ ap Some (eqb-true x w.key same) }))
+    (λ _. goes_on past w x h.0.come (omega arith))
 walked_keeps past r w (Missing s link) h = tt
 walked_keeps past r w Astray h = tt
 

@@ -7,6 +7,7 @@ use Rattle.pc_model.specs.declared.cell.Side.TheVariants.{Left, Right}
 use Rattle.pc_model.specs.declared.call.Reply.TheVariants.{Value, None as Nothing}
 use Rattle.pc_model.specs.Cells.{node_at}
 use Rattle.pc_model.specs.Debts.{has}
+use Rattle.pc_model.specs.Exchanges.{Visited}
 use Rattle.pc_model.specs.Sides.{link_of}
 use Rattle.pc_plan.specs.declared.change.To.TheVariants.{Number as ToNumber}
 use Rattle.pc_plan.specs.declared.plan.Ask.{Ask}
@@ -62,20 +63,27 @@ remove_ends r b = (in_phase r Ended, Change (planned_by b))
 abbrev pub renumbered : Field → ℕ → ℕ → FieldChange
 renumbered f old new = record { field = f; old = old; new = ToNumber new }
 
--- the link to the node with the key goes to its only child, or to none
-abbrev pub unlinked : BstRemove → ℕ → ByNodes
-unlinked r child = record {
-  nodes = record {
-    node = r.walk.above.node;
-    version = r.walk.above.version;
-    fields = renumbered
-        (link_of r.walk.above.side) r.walk.node child ∷ [];
-  } ∷ [];
-  mark = Some (record { node = r.walk.node; version = r.walk.version });
+-- these nodes change, this one is marked, and the reply is this value
+abbrev pub removing : List NodeChange → Visited → ℕ → ByNodes
+removing nodes marked value = record {
+  nodes = nodes;
+  mark = Some marked;
   fresh = None;
   charged = [];
-  reply = Value r.value;
+  reply = Value value;
 }
+
+-- the link to the node with the key goes to its only child, or to none
+abbrev pub relinked_above : BstRemove → ℕ → NodeChange
+relinked_above r child = record {
+  node = r.walk.above.node;
+  version = r.walk.above.version;
+  fields = renumbered (link_of r.walk.above.side) r.walk.node child ∷ [];
+}
+
+abbrev pub unlinked : BstRemove → ℕ → ByNodes
+unlinked r child = removing (relinked_above r child ∷ []) (record { node = r.walk.node; version = r.walk.version })
+    r.value
 
 -- the key and the value of the successor come up
 abbrev pub lifted_fields : BstRemove → List FieldChange
@@ -93,13 +101,7 @@ lifted_nodes r right = if r.next.above.node == r.walk.node
     ∷ record { node = r.next.above.node; version = r.next.above.version; fields = relinked r right } ∷ []
 
 abbrev pub lifted : BstRemove → ℕ → ByNodes
-lifted r right = record {
-  nodes = lifted_nodes r right;
-  mark = Some (record { node = r.next.node; version = r.next.version });
-  fresh = None;
-  charged = [];
-  reply = Value r.value;
-}
+lifted r right = removing (lifted_nodes r right) (record { node = r.next.node; version = r.next.version }) r.value
 
 -- on the way to the successor it visits a node, unless the link leads back
 abbrev pub visiting_below : BstRemove → Above → ℕ → BstRemove

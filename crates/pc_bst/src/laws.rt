@@ -1,11 +1,11 @@
 //! The laws of the plans, each the contract of a function that does nothing.
-ghost use Rattle.std.specs.Prelude.{IsSome};
+ghost use Rattle.std.specs.Prelude.{◌≡◌, IsSome, None};
 ghost use Rattle.pc_model.specs.declared.call.Call.TheVariants.{Get, Put, Remove};
 ghost use Rattle.pc_model.specs.Map.{IsKey, IsPair, value_at};
 ghost use Rattle.pc_model.specs.Trees.{plain};
 ghost use Rattle.pc_model.specs.TreeForms.{tree_form};
 ghost use Rattle.pc_plan.specs.CallLaws.{StandsForCall};
-ghost use Rattle.pc_plan.specs.EndLaws.{EndsInChange, ChargesNothing};
+ghost use Rattle.pc_plan.specs.EndLaws.{EndsInAnswer, EndsInChange, ChargesNothing};
 ghost use Rattle.pc_plan.specs.Quiet.{AsksForNoExchange};
 
 use crate::get::BstGet;
@@ -26,7 +26,7 @@ pub fn plans_stand_for_their_calls()
 {}
 
 /// A get asks for no exchange, whatever it is told. On sound cells a put ends in an exchange, also where
-/// the value is the old one, and so does a remove of a key that is there.
+/// the value is the old one, and so does a remove of a key that is there; a remove of another key answers.
 pub fn plans_end_as_their_calls_do()
     ensures get { AsksForNoExchange ⟦<BstGet as Plan>⟧.start ⟦<BstGet as Plan>⟧.moves
         ⟦<BstGet as Plan>⟧.can_call }
@@ -34,6 +34,8 @@ pub fn plans_end_as_their_calls_do()
         ⟦<BstPut as Plan>⟧.can_call ⟦<BstPut as Plan>⟧.form (λ call ps. Unit {0}) }
     ensures remove { EndsInChange ⟦<BstRemove as Plan>⟧.start ⟦<BstRemove as Plan>⟧.moves
         ⟦<BstRemove as Plan>⟧.can_call ⟦<BstRemove as Plan>⟧.form (λ k ps. IsSome (value_at k ps)) }
+    ensures missing { EndsInAnswer ⟦<BstRemove as Plan>⟧.start ⟦<BstRemove as Plan>⟧.moves
+        ⟦<BstRemove as Plan>⟧.can_call ⟦<BstRemove as Plan>⟧.form (λ k ps. value_at k ps ≡ None) }
 {}
 
 /// Whatever they are told, a put and a remove of a plain tree charge no key.

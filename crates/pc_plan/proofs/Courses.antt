@@ -13,6 +13,7 @@ use Rattle.pc_plan.specs.declared.plan.Ask.{Ask}
 use Rattle.pc_plan.specs.declared.plan.Ask.TheVariants.{Visit, Read, Change, Answer}
 use Rattle.pc_plan.specs.declared.plan.Told.{Told}
 use Rattle.pc_plan.specs.declared.plan.Told.TheVariants.{Begin, Version, Number}
+use Rattle.pc_plan.specs.EndLaws.{IsAnswer, IsChange, EndsInChange, EndsInAnswer}
 use Rattle.pc_plan.specs.Planned.{Planned}
 use Rattle.pc_plan.specs.Terms.{Terms, IsReply}
 use Rattle.pc_plan.specs.Traces.{Event, visited, found, after, learned_along, Agrees, visits_in, reads_in}
@@ -136,6 +137,28 @@ module _ (slots : ℕ) (c : Cells) {P : Type 0} (moves : P → Told → P × Ask
   course_ends (Begin ∷ ts) (Read n f) (suc turns) past s k agrees = absurd agrees.0
   course_ends (Version x ∷ ts) (Read n f) (suc turns) past s k agrees = absurd agrees.0
 
+  -- where no answer is wanted none is on the course, and likewise for exchanges
+  pub never_answers : ((past : List Event) (a : Ask) → Wanted past a → IsAnswer a → ⊥) → (past : List Event) (a : Ask)
+      → IsOnCourse past a → IsAnswer a → ⊥
+  never_answers never past (Visit n) h answers = answers
+  never_answers never past (Read n f) h answers = answers
+  never_answers never past (Change p) h answers = answers
+  never_answers never past (Answer r) h answers = never past (Answer r) h.1 answers
+
+  pub never_changes : ((past : List Event) (a : Ask) → Wanted past a → IsChange a → ⊥) → (past : List Event) (a : Ask)
+      → IsOnCourse past a → IsChange a → ⊥
+  never_changes never past (Visit n) h changes = changes
+  never_changes never past (Read n f) h changes = changes
+  never_changes never past (Change p) h changes = never past (Change p) h.1 changes
+  never_changes never past (Answer r) h changes = changes
+
+-- no ask is both
+pub change_or_answer : (a : Ask) → IsChange a → IsAnswer a → ⊥
+change_or_answer (Visit n) changes answers = answers
+change_or_answer (Read n f) changes answers = answers
+change_or_answer (Change p) changes answers = answers
+change_or_answer (Answer r) changes answers = changes
+
 -- What a course owes of an exchange at its end: all but that its visits and reads stand.
 pub record IsRightEnd (form : Form) (slots : ℕ) (c : Cells) (past : List Event) (next : Pairs) (terms : Terms)
     (p : Planned) (slot : ℕ) : Type 0 where
@@ -199,6 +222,23 @@ module _ {P C : Type 0} (start : C → P) (moves : P → Told → P × Ask) (can
   along_course slots c ps call ts ready can agrees =
       course_goes slots c moves (Wanted slots c ps call) ts (moves (start call) Begin).1 (turns slots) []
       (moves (start call) Begin).0 tt (course slots c ps call ready can) agrees
+
+  -- a plan ends in an exchange on whose courses no answer is wanted, and in an answer where no exchange is
+  pub changes_by_course : (IsSuch : C → Pairs → Type 0)
+      → ((slots : ℕ) (c : Cells) (ps : Pairs) (call : C) (past : List Event) (a : Ask) → IsSuch call ps
+      → Wanted slots c ps call past a → IsAnswer a → ⊥)
+      → EndsInChange start moves can_call form IsSuch
+  changes_by_course IsSuch never slots c ps call ts ready can such agrees =
+      never_answers slots c moves (Wanted slots c ps call) (λ past a. never slots c ps call past a such)
+      (past_of start moves call ts) (reached start moves call ts).1 (along_course slots c ps call ts ready can agrees)
+
+  pub answers_by_course : (IsSuch : C → Pairs → Type 0)
+      → ((slots : ℕ) (c : Cells) (ps : Pairs) (call : C) (past : List Event) (a : Ask) → IsSuch call ps
+      → Wanted slots c ps call past a → IsChange a → ⊥)
+      → EndsInAnswer start moves can_call form IsSuch
+  answers_by_course IsSuch never slots c ps call ts ready can such agrees =
+      never_changes slots c moves (Wanted slots c ps call) (λ past a. never slots c ps call past a such)
+      (past_of start moves call ts) (reached start moves call ts).1 (along_course slots c ps call ts ready can agrees)
 
   pub runs_by_course : Runs start moves can_call terms form
   runs_by_course = record {

@@ -27,6 +27,13 @@ EndsInChange {P} {C} start moves can_call form IsSuch =
     (slots : ℕ) (c : Cells) (ps : Pairs) (call : C) (ts : List Told) → IsReady form slots c ps → can_call call
     → IsSuch call ps → AgreesWith start moves c call ts → IsAnswer (reached start moves call ts).1 → ⊥
 
+-- on sound cells the plan of such a call never asks for an exchange, so it ends in an answer
+abbrev pub EndsInAnswer : {P C : Type 0} → (C → P) → (P → Told → P × Ask) → (C → Type 0) → Form → (C → Pairs → Type 0)
+    → Type 0
+EndsInAnswer {P} {C} start moves can_call form IsSuch =
+    (slots : ℕ) (c : Cells) (ps : Pairs) (call : C) (ts : List Told) → IsReady form slots c ps → can_call call
+    → IsSuch call ps → AgreesWith start moves c call ts → IsChange (reached start moves call ts).1 → ⊥
+
 -- the ask charges no key
 abbrev pub IsFree : Ask → Type 0
 IsFree (Visit n) = Unit {0}
