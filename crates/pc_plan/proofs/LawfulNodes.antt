@@ -9,7 +9,7 @@ use Rattle.pc_model.specs.declared.cell.Field.TheVariants.{Version}
 use Rattle.pc_model.specs.Cells.{Cells, field_number}
 use Rattle.pc_model.specs.Debts.{has, AreDifferent}
 use Rattle.pc_model.specs.Exchanges.{Visited, with_fresh, applied}
-use Rattle.pc_model.proofs.Writes.{with_node-here, with_node-other}
+use Rattle.pc_model.proofs.Writes.{with_node-here}
 use Rattle.pc_plan.specs.declared.change.To.TheVariants.{Number, Fresh as FreshNumber}
 use Rattle.pc_plan.specs.declared.change.Add.{Add}
 use Rattle.pc_plan.specs.declared.change.Fresh.{Fresh}

@@ -2,22 +2,17 @@
 -- change, and the node that is marked. That nodes are different is said once, that the fields of a node are
 -- is seen by computing, and what the exchange leaves is looked up.
 use Rattle.std.proofs.Common.{◌≡◌, ◌≢◌, ℕ, ◌+◌, ◌%◌, ◌^◌, ◌==◌, ◌⊎◌, ⊎_elim, if◌then◌else◌, Bool, ◌||◌, true, false}
-use Rattle.std.proofs.Common.{List, [], ◌∷◌, ◌++◌, Option, Some, None, refl, sym, ap, ◌∙◌, subst}
+use Rattle.std.proofs.Common.{List, [], ◌∷◌, Option, Some, None, refl, sym, ap, ◌∙◌, subst}
 use Rattle.std.proofs.Math.Bool.{or-true}
 use Rattle.std.proofs.lemmas.Bool.{cases_Bool, eq-eqb, eqb-true, eqb-false, ne_eqb, or_from, or_parts, cond-true}
 use Rattle.std.proofs.lemmas.Bool.{cond-false}
 use Rattle.pc_model.specs.declared.cell.Field.{Field}
 use Rattle.pc_model.specs.declared.cell.Field.TheVariants.{Version}
-use Rattle.pc_model.specs.declared.call.Reply.{Reply}
 use Rattle.pc_model.specs.Cells.{Cells, field_number, written}
 use Rattle.pc_model.specs.Debts.{has, AreDifferent}
 use Rattle.pc_model.specs.Exchanges.{Visited}
 use Rattle.pc_model.proofs.Writes.{written-here, written-else, written-other_node, same_field}
-use Rattle.pc_plan.specs.declared.change.To.{To}
-use Rattle.pc_plan.specs.declared.change.Add.{Add}
-use Rattle.pc_plan.specs.declared.change.Fresh.{Fresh}
 use Rattle.pc_plan.specs.NodeChanges.{FieldChange, NodeChange, adds_at, marked_adds, adds_of}
-use Rattle.pc_plan.specs.Planned.{Planned, raised, removed, rewritten}
 use Rattle.pc_plan.specs.Runs.{number_at}
 use Rattle.pc_plan.specs.Lawful.{Adds}
 use Rattle.pc_plan.proofs.WrittenWords.{with_words, words_else, words_append, adds_append}

@@ -242,6 +242,19 @@ module _ (slots : ℕ) (c : Cells) (kind : Kind) (ps : Pairs) (few : slots ≤ 6
     abbrev Nothing : (d : Unit {0}) (q : ℕ) (s : Side) (t : Tree) → HoleAt q s t → Type 0
     Nothing d q s t h = Unit {0}
 
+    -- from a node with another key the walk goes on by a link
+    goes_on_by : (q : ℕ) (s : Side) (n : ℕ) (past : List Event) (turns : ℕ) (side : Side) → k ≢ c n KeyField
+        → side_toward k (c n KeyField) ≡ side
+        → To turns past (walking (walk_at (left_node q s) n (Link side)), AskRead n (link_of side))
+        → To (suc (suc (suc turns))) past (walked (walk_at (left_node q s) n Choice) (Here (c n KeyField)))
+    goes_on_by q s n past turns side other toward on =
+        let to : Side → P × Ask = λ t. (walking (walk_at (left_node q s) n (Link t)), AskRead n (link_of t)) in
+        let next : walked (walk_at (left_node q s) n Choice) (Here (c n KeyField)) ≡ to side
+        = passes (walk_at (left_node q s) n Choice) (c n KeyField) other ∙ ap to toward in
+        subst (To (suc (suc (suc turns))) past) (sym next)
+        (more_turns slots c moves Wanted turns (suc (suc (suc turns))) (AskRead n (link_of side)) past
+        (walking (walk_at (left_node q s) n (Link side))) (omega arith) on)
+
     pub walk_to_key : Course slots c moves Wanted (moves (walking (walk_of k)) Begin).1 (6 * slots + (after + 3)) []
         (moves (walking (walk_of k)) Begin).0
     walk_to_key = walk_course moves Wanted (λ d w. walking w) (λ d w s. walked w s) (λ d w t. moved w t)
@@ -255,33 +268,10 @@ module _ (slots : ℕ) (c : Cells) (kind : Kind) (ps : Pairs) (few : slots ≤ 6
         (walked w (Here x)).0 (omega arith)
         (at_key q s n l r h e past unseen_l unseen_r))
         (λ apart. ⊎_elim
-        (λ less. let next : walked w (Here x) ≡ (walking (walk_at (left_node q s) n (Link Left)), AskRead n LeftLink)
-        = passes w x (λ e. absurd (omega arith))
-        ∙ (λ i. (
-          walking (walk_at (left_node q s) n (Link (toward_left k x less i))),
-          AskRead n
-              (link_of (toward_left k x less i)),
-        )) in
-        let on : To turns past (walking (walk_at (left_node q s) n (Link Left)), AskRead n LeftLink)
-        = to_left tt less past tt unseen_l in
-        subst (To (suc (suc (suc turns))) past) (sym next)
-        (more_turns slots c moves Wanted turns (suc (suc (suc turns))) (AskRead n LeftLink) past
-        (walking (walk_at (left_node q s) n (Link Left))) (omega arith) on))
-        (λ more. let le : x ≤ k = omega arith in let next : walked w (Here x) ≡ (
-          walking (walk_at (left_node q s) n
-              (Link Right)),
-          AskRead n RightLink,
-        )
-        = passes w x (λ e. absurd (omega arith))
-        ∙ (λ i. (
-          walking (walk_at (left_node q s) n (Link (toward_right k x le i))),
-          AskRead n
-              (link_of (toward_right k x le i)),
-        )) in
-        let on : To turns past (walking (walk_at (left_node q s) n (Link Right)), AskRead n RightLink)
-        = to_right tt more past tt unseen_r in
-        subst (To (suc (suc (suc turns))) past) (sym next)
-        (more_turns slots c moves Wanted turns (suc (suc (suc turns))) (AskRead n RightLink) past
-        (walking (walk_at (left_node q s) n (Link Right))) (omega arith) on))
+        (λ less. goes_on_by q s n past turns Left (λ e. absurd (omega arith)) (toward_left k x less)
+        (to_left tt less past tt unseen_l))
+        (λ more. let le : x ≤ k = omega arith in
+        goes_on_by q s n past turns Right (λ e. absurd (omega arith)) (toward_right k x le)
+        (to_right tt more past tt unseen_r))
         apart) (cases_order k x))
         (λ d q s a h good past. at_end q s a h past) tt tt
