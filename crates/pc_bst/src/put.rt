@@ -19,12 +19,13 @@ pub enum PutPhase {
     Ended,
 }
 
-/// The plan of a put.
-#[derive(Debug, Drop)]
+/// The plan of a put. The phase comes first: at the end, before padding, the machine asks for it anew at
+/// each turn.
+#[derive(Clone, Copy, Debug)]
 pub struct BstPut {
+    phase: PutPhase,
     walk: Walk,
     value: u64,
-    phase: PutPhase,
 }
 
 impl Plan for BstPut {
@@ -58,6 +59,7 @@ impl Plan for BstPut {
         }
     }
 
+    #[inline(always)]
     fn step(&mut self, told: Told, change: &mut Change) -> Turn {
         match (self.phase, told) {
             (PutPhase::Walking, told) => self.walk_on(told, change),
@@ -108,9 +110,11 @@ impl BstPut {
         }
     }
 
-    /// Changes the value of the node that the walk has come to.
-    fn change_value(&self, old: u64, change: &mut Change)
-        ensures { change.new ≡ planned_by (value_changed self.now.walk old self.now.value) }
+    /// Changes the value of the node that the walk has come to. It takes the plan by value, so that a run
+    /// can keep the plan out of memory.
+    #[inline(never)]
+    fn change_value(self, old: u64, change: &mut Change)
+        ensures { change.new ≡ planned_by (value_changed self.walk old self.value) }
     {
         change.restart(Reply::Was(old));
         change.raise(self.walk.node, self.walk.version);
@@ -118,8 +122,9 @@ impl BstPut {
     }
 
     /// Hangs a fresh node at a link of the node that the walk has come to.
-    fn add_leaf(&self, side: Side, link: u64, change: &mut Change)
-        ensures { change.new ≡ planned_by (leaf_added self.now.walk side link self.now.value) }
+    #[inline(never)]
+    fn add_leaf(self, side: Side, link: u64, change: &mut Change)
+        ensures { change.new ≡ planned_by (leaf_added self.walk side link self.value) }
     {
         change.restart(Reply::New);
         change.raise(self.walk.node, self.walk.version);

@@ -47,14 +47,14 @@ pub struct Next {
 }
 
 /// The plan of a remove. The walk stays at the node with the key.
-#[derive(Debug, Drop)]
+#[derive(Clone, Copy, Debug)]
 pub struct BstRemove {
+    phase: RemovePhase,
     walk: Walk,
     left: u64,
     right: u64,
     value: u64,
     next: Next,
-    phase: RemovePhase,
 }
 
 impl Plan for BstRemove {
@@ -98,6 +98,7 @@ impl Plan for BstRemove {
         }
     }
 
+    #[inline(always)]
     fn step(&mut self, told: Told, change: &mut Change) -> Turn {
         match (self.phase, told) {
             (RemovePhase::Walking, told) => self.walk_on(told),
@@ -161,6 +162,7 @@ impl BstRemove {
     }
 
     /// Unlinks the node with the key where it has at most one child, else goes to its successor.
+    #[inline(always)]
     fn choose(&mut self, change: &mut Change) -> Turn
         ensures { (self.new, asked result change.new) ≡ chosen self.old (node_at self.old.left) (node_at self.old.right) }
     {
@@ -179,6 +181,7 @@ impl BstRemove {
     }
 
     /// Goes left from a node on the way to the successor, which is the node with no left child.
+    #[inline(always)]
     fn follow(&mut self, left: u64) -> Turn
         ensures { (p : Planned) → (self.new, asked result p) ≡ following self.old (node_at left) }
     {
@@ -196,6 +199,7 @@ impl BstRemove {
     }
 
     /// Visits a node on the way to the successor, unless the link to it leads back.
+    #[inline(always)]
     fn go_below(&mut self, above: Above, node: u32) -> Turn
         ensures { (p : Planned) → (self.new, asked result p) ≡ going_below self.old above node }
     {
@@ -209,8 +213,31 @@ impl BstRemove {
     }
 
     /// Unlinks the node with the key: the link to it goes to its child, or to none.
+    #[inline(always)]
     fn unlink(&mut self, child: u64, change: &mut Change) -> Turn
         ensures { (self.new, asked result change.new) ≡ remove_ends self.old (unlinked self.old child) }
+    {
+        self.write_unlinking(child, change);
+        self.phase = RemovePhase::Ended;
+        Turn::Change
+    }
+
+    /// Lifts the key and the value of the successor to the node with the key, and unlinks the successor:
+    /// the link to it goes to its right child, or to none.
+    #[inline(always)]
+    fn lift(&mut self, right: u64, change: &mut Change) -> Turn
+        ensures { (self.new, asked result change.new) ≡ remove_ends self.old (lifted self.old right) }
+    {
+        self.write_lifting(right, change);
+        self.phase = RemovePhase::Ended;
+        Turn::Change
+    }
+
+    /// Writes the exchange of an unlinking. It takes the plan by value, so that a run can keep the plan out
+    /// of memory.
+    #[inline(never)]
+    fn write_unlinking(self, child: u64, change: &mut Change)
+        ensures { change.new ≡ planned_by (unlinked self child) }
     {
         let above = self.walk.above;
         change.restart(Reply::Value(self.value));
@@ -218,14 +245,12 @@ impl BstRemove {
         let link = u64::from(self.walk.node);
         change.rewrite(above.node, above.side.link(), link, To::Number(child));
         change.mark_removed(self.walk.node, self.walk.version);
-        self.phase = RemovePhase::Ended;
-        Turn::Change
     }
 
-    /// Lifts the key and the value of the successor to the node with the key, and unlinks the successor:
-    /// the link to it goes to its right child, or to none.
-    fn lift(&mut self, right: u64, change: &mut Change) -> Turn
-        ensures { (self.new, asked result change.new) ≡ remove_ends self.old (lifted self.old right) }
+    /// Writes the exchange of a lifting.
+    #[inline(never)]
+    fn write_lifting(self, right: u64, change: &mut Change)
+        ensures { change.new ≡ planned_by (lifted self right) }
     {
         let node = self.walk.node;
         let above = self.next.above;
@@ -239,8 +264,6 @@ impl BstRemove {
         let link = u64::from(self.next.node);
         change.rewrite(above.node, above.side.link(), link, To::Number(right));
         change.mark_removed(self.next.node, self.next.version);
-        self.phase = RemovePhase::Ended;
-        Turn::Change
     }
 
     #[inline]
