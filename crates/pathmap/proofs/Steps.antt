@@ -11,7 +11,7 @@ use Rattle.pc_model.proofs.Replaying.{fold_from-push, right_push}
 use Rattle.pc_model.proofs.Sizes.{length-pairs_after, puts_in-push}
 use Rattle.pc_model.specs.Counts.{one_if}
 use Rattle.pc_model.specs.Calls.{is_put, puts_in}
-use Rattle.pc_plain.specs.PlainCells.{PlainWords, cells_of, IsEmptyTree}
+use Rattle.pc_plain.specs.PlainCells.{PlainWords, cells_of}
 use Rattle.pc_model.specs.Trees.{plain, IsSearchTree}
 use Rattle.pc_model.specs.TreeForms.{tree_form}
 use Rattle.pathmap.specs.Running.{IsOneHistory, HasRoomFor, AnswersAs, HasRun}
@@ -19,17 +19,6 @@ use Rattle.pathmap.specs.Running.{IsOneHistory, HasRoomFor, AnswersAs, HasRun}
 -- the entry of client 1 at a place, from 0
 abbrev pub entry_at : ℕ → Call → Reply → Entry
 entry_at place call r = record { pass = 1; number = place + 1; call = call; reply = r; stamp = place + 1 }
-
-pub nothing_run : (w : PlainWords) → IsEmptyTree w → HasRun w.slots [] w []
-nothing_run w empty = record {
-  numbered = tt;
-  own = tt;
-  in_order = refl;
-  right = tt;
-  tree = empty;
-  few = omega arith;
-  size = refl;
-}
 
 pub as_long : (slots : ℕ) (calls : List Call) (w : PlainWords) (history : List Entry)
     → HasRun slots calls w history → length history ≡ length calls

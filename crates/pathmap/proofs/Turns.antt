@@ -46,11 +46,6 @@ pub with_piece : (a b c : Option (List ℕ)) (before after : List ℕ) (n : ℕ)
 with_piece a b c before after n taken p =
     subst (Consumes a c) (sym p.appended) (consumes_more a b c before p.piece taken p.takes)
 
-pub piece_length : (b c : Option (List ℕ)) (before after : List ℕ) (n : ℕ) → TakesPiece b c before after n
-    → length after ≡ length before + n
-piece_length b c before after n p = ap length p.appended ∙ length-append before p.piece
-    ∙ ap (λ (z : ℕ). length before + z) p.count
-
 pub takes_at_most_more : (a b c : Option (List ℕ)) (bytes : List ℕ) (m n : ℕ) → Consumes a b bytes
     → length bytes + m ≤ n → TakesAtMost m b c → TakesAtMost n a c
 takes_at_most_more a b c bytes m n taken le t = let few : length t.taken ≤ m = t.few in

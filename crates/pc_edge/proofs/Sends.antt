@@ -1,5 +1,5 @@
 -- What was sent piece by piece was sent as a whole.
-use Rattle.std.proofs.Common.{ℕ, List, [], ◌++◌, Option, refl, sym, ap, subst, ◌∙◌, append_assoc, append-nil, arith}
+use Rattle.std.proofs.Common.{ℕ, List, [], ◌++◌, Option, refl, sym, ap, ◌∙◌, append_assoc, append-nil, arith}
 use Rattle.std.specs.Prelude.{Result, Ok, Err}
 use Rattle.std.specs.Io.KnownBytes.{Appends, Keeps}
 use Rattle.std.proofs.KnownBytes.{Appends-nil, Appends-trans, Appends-kept}
@@ -27,16 +27,6 @@ Sends-trans a b c text rest later s t = record {
   grew = Appends-trans a b c s.sent t.sent s.grew t.grew;
 }
 
--- the rest with more after it was sent but for a later rest
-pub Sends-more : (a b c : Option (List ℕ)) (text rest more later : List ℕ) → Sends a b text rest
-    → Sends b c (rest ++ more) later → Sends a c (text ++ more) later
-Sends-more a b c text rest more later s t =
-    Sends-trans a b c (text ++ more) (rest ++ more) later (Sends-append a b text rest more s) t
-
--- all was sent where nothing is left
-pub Sends-all : (a b : Option (List ℕ)) (text : List ℕ) → Sends a b text [] → Appends a b text
-Sends-all a b text s = subst (Appends a b) (sym (s.whole ∙ append-nil s.sent)) s.grew
-
 -- a whole text was sent
 pub Sends-of_Appends : (a b : Option (List ℕ)) (text : List ℕ) → Appends a b text → Sends a b text []
 Sends-of_Appends a b text p = record { sent = text; whole = sym (append-nil text); grew = p }
@@ -53,23 +43,11 @@ pub AppendsFront-after : (a b c : Option (List ℕ)) (text rest : List ℕ) → 
 AppendsFront-after a b c text rest s f =
     record { unsent = f.unsent; sends = Sends-trans a b c text rest f.unsent s f.sends }
 
--- a text was sent but for a rest, and of the rest with more after it a front
-pub AppendsFront-more : (a b c : Option (List ℕ)) (text rest more : List ℕ) → Sends a b text rest
-    → AppendsFront b c (rest ++ more) → AppendsFront a c (text ++ more)
-AppendsFront-more a b c text rest more s f =
-    AppendsFront-after a b c (text ++ more) (rest ++ more) (Sends-append a b text rest more s) f
-
 -- what was sent whole was sent as a front of what it begins
 pub AppendsFront-of_Appends : (a b c : Option (List ℕ)) (sent rest : List ℕ) → Appends a b sent → Keeps b c
     → AppendsFront a c (sent ++ rest)
 AppendsFront-of_Appends a b c sent rest p k =
     record { unsent = rest; sends = record { sent = sent; whole = refl; grew = Appends-kept a b c sent p k } }
-
--- nothing was written yet: all of the text waits
-pub Writes-nothing : {K T E : Type 0} (held : K → Option (List ℕ)) (faults : K → ℕ) (s : K) (text : List ℕ) (x : T)
-    → Writes {E = E} held faults s s text text (Ok x)
-Writes-nothing held faults s text x =
-    record { ok = Sends-nothing (held s) text; front = tt; cause = tt; never_falls = omega arith }
 
 -- a text was written but for a rest, and then the rest
 pub Writes-then : {K T U E : Type 0} (held : K → Option (List ℕ)) (faults : K → ℕ) (a b c : K)

@@ -100,10 +100,3 @@ pub begins_word_at : (line text rest : List ℕ) (start end : ℕ) → start ≡
     → BeginsWord line (take end text) rest
 begins_word_at line text rest start end first below cut last left =
     rw (left, last, cut) (begins_word line start first below)
-
--- there is a word where the blanks at the front end
-pub has_word : (line : List ℕ) (start : ℕ) → start ≡ prefix_len is_blank line → start < length line
-    → 0 < length (words_of line)
-has_word line start first below =
-    let begins = begins_word line start first below in
-    omega (arith, ap length begins.words)
