@@ -7,4 +7,6 @@ pub mod Making
 pub mod Opening
 pub mod QuietPlans
 pub mod RunRight
+pub mod ShapeBuilding
+pub mod ShapeListing
 pub mod TraceSteps

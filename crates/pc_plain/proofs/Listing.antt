@@ -102,7 +102,7 @@ none_at kind slots c Empty above s = refl
 none_at kind slots c (Fork n l r) above s = let e : 0 ≡ n = s.0 in let low : 2 ≤ n = s.1.slot.0 in absurd (omega arith)
 
 -- a link spells one tree alone, of whichever kind
-spells_once : (kind kind' : Kind) (slots : ℕ) (c : Cells) (t t' : Tree) (above link : ℕ)
+pub spells_once : (kind kind' : Kind) (slots : ℕ) (c : Cells) (t t' : Tree) (above link : ℕ)
     → Spells kind slots c t above link → Spells kind' slots c t' above link → t ≡ t'
 spells_once kind kind' slots c Empty Empty above link s s' = refl
 spells_once kind kind' slots c Empty (Fork n l r) above link s s' = let z : link ≡ 0 = s in let e : link ≡ n = s'.0 in

@@ -10,9 +10,11 @@ mod plain;
 mod plain_tests;
 mod run;
 mod tree_pairs;
+mod tree_shape;
 
 pub use laws::quiet_plans_change_nothing;
 pub use node_store::NoPlainSlot;
 pub use plain::PlainCells;
 pub use run::run_plan;
 pub use tree_pairs::pairs;
+pub use tree_shape::shape;

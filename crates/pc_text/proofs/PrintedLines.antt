@@ -7,7 +7,8 @@ use Rattle.std.specs.Prelude.{Result, Ok, Err}
 use Rattle.pc_edge.specs.Sending.{Writes}
 use Rattle.pc_edge.proofs.Sends.{Writes-more, Writes-failed}
 use Rattle.pc_model.specs.declared.call.Entry.{Entry}
-use Rattle.pc_text.specs.Printed.{entry_line, entry_lines, pair_line, pair_lines}
+use Rattle.pc_text.specs.declared.shape.ShapeLine.{ShapeLine}
+use Rattle.pc_text.specs.Printed.{entry_line, entry_lines, pair_line, pair_lines, node_line, node_lines}
 
 pub entry_lines-append : (place : ℕ) (xs ys : List Entry)
     → entry_lines place (xs ++ ys) ≡ entry_lines place xs ++ entry_lines (place + length xs) ys
@@ -31,6 +32,14 @@ pair_lines-append (x ∷ xs) ys = ap (λ l. pair_line x ++ l) (pair_lines-append
 pub pair_lines-push : (xs : List (ℕ × ℕ)) (x : ℕ × ℕ) → pair_lines (xs ++ x ∷ []) ≡ pair_lines xs ++ pair_line x
 pair_lines-push xs x = pair_lines-append xs (x ∷ []) ∙ ap (λ l. pair_lines xs ++ l) (append-nil (pair_line x))
 
+pub node_lines-append : (xs ys : List ShapeLine) → node_lines (xs ++ ys) ≡ node_lines xs ++ node_lines ys
+node_lines-append [] ys = refl
+node_lines-append (x ∷ xs) ys = ap (λ l. node_line x ++ l) (node_lines-append xs ys)
+    ∙ sym (append_assoc (node_line x) (node_lines xs) (node_lines ys))
+
+pub node_lines-push : (xs : List ShapeLine) (x : ShapeLine) → node_lines (xs ++ x ∷ []) ≡ node_lines xs ++ node_line x
+node_lines-push xs x = node_lines-append xs (x ∷ []) ∙ ap (λ l. node_lines xs ++ l) (append-nil (node_line x))
+
 -- the first lines, with one line more
 pub entry_lines-next : (es : List Entry) (i : ℕ) (d : Entry) → i < length es
     → entry_lines 1 (take (i + 1) es) ≡ entry_lines 1 (take i es) ++ entry_line (i + 1) (get_or es i d)
@@ -43,6 +52,10 @@ pub pair_lines-next : (ps : List (ℕ × ℕ)) (i : ℕ) (d : ℕ × ℕ) → i 
     → pair_lines (take (i + 1) ps) ≡ pair_lines (take i ps) ++ pair_line (get_or ps i d)
 pair_lines-next ps i d inside = ap pair_lines (take_more ps i d inside) ∙ pair_lines-push (take i ps) (get_or ps i d)
 
+pub node_lines-next : (ns : List ShapeLine) (i : ℕ) (d : ShapeLine) → i < length ns
+    → node_lines (take (i + 1) ns) ≡ node_lines (take i ns) ++ node_line (get_or ns i d)
+node_lines-next ns i d inside = ap node_lines (take_more ns i d inside) ∙ node_lines-push (take i ns) (get_or ns i d)
+
 -- the first lines, and then the others
 pub entry_lines-split : (es : List Entry) (i : ℕ)
     → entry_lines 1 es ≡ entry_lines 1 (take i es) ++ entry_lines (1 + length (take i es)) (drop i es)
@@ -51,6 +64,9 @@ entry_lines-split es i = ap (entry_lines 1) (sym (take-append-drop i es))
 
 pub pair_lines-split : (ps : List (ℕ × ℕ)) (i : ℕ) → pair_lines ps ≡ pair_lines (take i ps) ++ pair_lines (drop i ps)
 pair_lines-split ps i = ap pair_lines (sym (take-append-drop i ps)) ∙ pair_lines-append (take i ps) (drop i ps)
+
+pub node_lines-split : (ns : List ShapeLine) (i : ℕ) → node_lines ns ≡ node_lines (take i ns) ++ node_lines (drop i ns)
+node_lines-split ns i = ap node_lines (sym (take-append-drop i ns)) ∙ node_lines-append (take i ns) (drop i ns)
 
 -- what was written so far with one part more
 pub Writes-next : {K T U E : Type 0} (held : K → Option (List ℕ)) (faults : K → ℕ) (a b c : K)

@@ -1,7 +1,7 @@
 -- Printed text can be read back: where two texts with something after them are equal, the texts are of the same
 -- thing, and the rests are equal.
 use Rattle.std.proofs.Common.{◌≡◌, ℕ, ◌+◌, ◌≤◌, ◌<◌, ◌^◌, List, [], ◌∷◌, ◌++◌, length, map, drop, refl, sym, ap}
-use Rattle.std.proofs.Common.{subst, ◌∙◌, append_assoc, arith}
+use Rattle.std.proofs.Common.{Option, pred, subst, ◌∙◌, append_assoc, arith}
 use Rattle.std.specs.Char.{digit_value}
 use Rattle.std.specs.Str.Parse.{AllDigits}
 use Rattle.std.specs.Fmt.{decimal}
@@ -12,7 +12,8 @@ use Rattle.pc_model.specs.declared.call.Reply.{Reply}
 use Rattle.pc_model.specs.declared.call.Reply.TheVariants.{New, Was, Value, None as Nothing, Pair}
 use Rattle.pc_model.specs.declared.call.Entry.{Entry}
 use Rattle.pc_text.specs.Printed.{call_text, reply_text, turn_text, entry_line, entry_lines, left_line, pair_line}
-use Rattle.pc_text.specs.Printed.{pair_lines, end_line, printed_run}
+use Rattle.pc_text.specs.declared.shape.ShapeLine.{ShapeLine}
+use Rattle.pc_text.specs.Printed.{pair_lines, shape_lines, end_line, printed_run}
 use Rattle.pc_text.specs.FixesHistory.{IsWord, CallFits, ReplyFits, EntryFits, EntriesFit, PairsFit, shown}
 use Rattle.pc_text.specs.FixesHistory.{FixesHistory}
 
@@ -234,35 +235,30 @@ pair_line_text : (p : ℕ × ℕ) (r : List ℕ) → pair_line p ++ r ≡ decima
 unfolding pair_line
 pair_line_text p r = simp append_assoc
 
--- `end` begins with no digit
-pairs_apart : (ps qs : List (ℕ × ℕ)) (r s : List ℕ) → PairsFit ps → PairsFit qs
-    → pair_lines ps ++ 101 ∷ r ≡ pair_lines qs ++ 101 ∷ s → ps ≡ qs
-pairs_apart [] [] r s p q e = refl
-pairs_apart [] (y ∷ ys) r s p q e =
-    absurd (number_first y.0 101 _ r q.0 no_e (sym (e ∙ append_assoc (pair_line y) (pair_lines ys) (101 ∷ s)
-    ∙ pair_line_text y (pair_lines ys ++ 101 ∷ s))))
-pairs_apart (x ∷ xs) [] r s p q e =
-    absurd (number_first x.0 101 _ s p.0 no_e (sym (sym e ∙ append_assoc (pair_line x) (pair_lines xs) (101 ∷ r)
-    ∙ pair_line_text x (pair_lines xs ++ 101 ∷ r))))
-pairs_apart (x ∷ xs) (y ∷ ys) r s p q e =
+pairs_apart : (ps qs : List (ℕ × ℕ)) (r s : List ℕ) → length ps ≡ length qs → PairsFit ps → PairsFit qs
+    → pair_lines ps ++ r ≡ pair_lines qs ++ s → ps ≡ qs
+pairs_apart [] [] r s l p q e = refl
+pairs_apart [] (y ∷ ys) r s l p q e = absurd (omega (arith, l))
+pairs_apart (x ∷ xs) [] r s l p q e = absurd (omega (arith, l))
+pairs_apart (x ∷ xs) (y ∷ ys) r s l p q e =
     let one = two_apart x.0 x.1 y.0 y.1 10 _ _ p.0 p.1 q.0 q.1 no_line_end
-    (sym (append_assoc (pair_line x) (pair_lines xs) (101 ∷ r) ∙ pair_line_text x (pair_lines xs ++ 101 ∷ r)) ∙ e
-    ∙ append_assoc (pair_line y) (pair_lines ys) (101 ∷ s) ∙ pair_line_text y (pair_lines ys ++ 101 ∷ s)) in
-    let others = pairs_apart xs ys r s p.2 q.2 one.2 in
+    (sym (append_assoc (pair_line x) (pair_lines xs) r ∙ pair_line_text x (pair_lines xs ++ r)) ∙ e
+    ∙ append_assoc (pair_line y) (pair_lines ys) s ∙ pair_line_text y (pair_lines ys ++ s)) in
+    let others = pairs_apart xs ys r s (ap pred l) p.2 q.2 one.2 in
     λ i. (one.0 i, one.1 i) ∷ others i
 
 -- ---- a run
 
-run_text : (es : List Entry) (ps : List (ℕ × ℕ)) → printed_run es ps
+run_text : (es : List Entry) (ps : List (ℕ × ℕ)) (shape : Option (List ShapeLine)) → printed_run es ps shape
     ≡ entry_lines 1 es ++ 108 ∷
-    (101 ∷ 102 ∷ 116 ∷ 32 ∷ (decimal (length ps) ++ 10 ∷ (pair_lines ps ++ 101 ∷ (110 ∷ 100 ∷ 10 ∷ []))))
-unfolding left_line end_line
-run_text es ps = simp append_assoc
+    (101 ∷ 102 ∷ 116 ∷ 32 ∷ (decimal (length ps) ++ 10 ∷ (pair_lines ps ++ (shape_lines shape ++ end_line))))
+unfolding left_line
+run_text es ps shape = simp append_assoc
 
 pub fixes_history : FixesHistory
-fixes_history es fs ps qs p q e =
+fixes_history es fs ps qs shape shape' p q e =
     let lines = entries_apart 1 es fs _ _ (omega (arith, p.lines)) (omega (arith, q.lines)) p.entries q.entries
-    (sym (run_text es ps) ∙ e ∙ run_text fs qs) in
+    (sym (run_text es ps shape) ∙ e ∙ run_text fs qs shape') in
     let count = number_apart (length ps) (length qs) 10 10 _ _ p.count q.count no_line_end no_line_end
     (ap (drop 4) lines.1) in
-    (lines.0, pairs_apart ps qs _ _ p.pairs q.pairs (ap (drop 1) count.1))
+    (lines.0, pairs_apart ps qs _ _ count.0 p.pairs q.pairs (ap (drop 1) count.1))

@@ -1,5 +1,5 @@
 -- Worked rows of the definition: each one computes.
-use Rattle.std.proofs.Common.{◌≡◌, ℕ, List, [], ◌∷◌, ◌++◌, Result, Ok, Err, refl}
+use Rattle.std.proofs.Common.{◌≡◌, ℕ, List, [], ◌∷◌, ◌++◌, Result, Ok, Err, Some, None as Absent, refl}
 use Rattle.std.specs.Prelude.{codes}
 use Rattle.std.specs.Fmt.{digits}
 use Rattle.pc_model.specs.declared.call.Call.{Call}
@@ -13,7 +13,11 @@ use Rattle.pc_text.specs.declared.kind.ScriptKind.TheVariants.{BadByte, UnknownW
 use Rattle.pc_text.specs.declared.kind.ScriptKind.TheVariants.{TooManyClients}
 use Rattle.pc_text.specs.FaultLine.{kind_text, fault_text, fault_line}
 use Rattle.pc_text.specs.Printed.{call_text, reply_text, turn_text, entry_line, left_line, pair_line, end_line}
-use Rattle.pc_text.specs.Printed.{printed_run}
+use Rattle.pc_model.specs.declared.cell.Field.TheVariants.{Key}
+use Rattle.pc_model.specs.Cells.{Cells}
+use Rattle.pc_model.specs.Trees.{Tree, Empty, Fork}
+use Rattle.pc_text.specs.Printed.{printed_run, shape_lines, height_line, node_line}
+use Rattle.pc_text.specs.Shapes.{shape_of}
 use Rattle.pc_text.specs.Script.{script_of}
 use Rattle.pc_text.specs.ScriptValue.{ScriptValue}
 
@@ -139,7 +143,24 @@ script_line : fault_line (Script 2 UnknownWord) ≡ codes "fault line 2 unknown 
 unfolding fault_line fault_text kind_text digits
 script_line = refl
 
-put_and_get : printed_run (entry 1 (Put 5 50) New ∷ entry 2 (Get 5) (Value 50) ∷ []) ((5, 50) ∷ [])
+put_and_get : printed_run (entry 1 (Put 5 50) New ∷ entry 2 (Get 5) (Value 50) ∷ []) ((5, 50) ∷ []) Absent
     ≡ codes "1 1.1 put 5 50 = new\n2 1.2 get 5 = 50\nleft 1\n5 50\nend\n"
 unfolding entry_line turn_text call_text reply_text left_line pair_line end_line digits
 put_and_get = refl
+
+-- the tree that is left of 10, 5, 20, 15, 25 and 17 after 10 was removed, nodes by their keys
+abbrev left_tree : Tree
+left_tree = Fork 15 (Fork 5 Empty Empty) (Fork 20 (Fork 17 Empty Empty) (Fork 25 Empty Empty))
+
+abbrev keyed : Cells
+keyed n Key = n
+keyed n f = 0
+
+shape_text : shape_lines (Some (shape_of keyed 1 left_tree))
+    ≡ codes "shape 3\n1 15 3 -1\n2 5 1 0\n2 20 2 0\n3 17 1 0\n3 25 1 0\n"
+unfolding height_line node_line digits
+shape_text = refl
+
+empty_shape_text : shape_lines (Some []) ≡ codes "shape 0\n"
+unfolding height_line digits
+empty_shape_text = refl

@@ -1,10 +1,11 @@
 -- A printed run fixes its history: two histories that differ in more than their stamps are not printed alike.
-use Rattle.std.specs.Prelude.{◌≡◌, ℕ, ◌^◌, ◌<◌, List, [], ◌∷◌, length, map}
+use Rattle.std.specs.Prelude.{◌≡◌, ℕ, ◌^◌, ◌<◌, Option, List, [], ◌∷◌, length, map}
 use Rattle.pc_model.specs.declared.call.Call.{Call}
 use Rattle.pc_model.specs.declared.call.Call.TheVariants.{Put, Get, Remove, Ceil, Floor}
 use Rattle.pc_model.specs.declared.call.Reply.{Reply}
 use Rattle.pc_model.specs.declared.call.Reply.TheVariants.{New, Was, Value, None as Nothing, Pair}
 use Rattle.pc_model.specs.declared.call.Entry.{Entry}
+use Rattle.pc_text.specs.declared.shape.ShapeLine.{ShapeLine}
 use Rattle.pc_text.specs.Printed.{printed_run}
 
 -- a number of 64 bits
@@ -51,5 +52,6 @@ abbrev pub shown : Entry → ℕ × ℕ × Call × Reply
 shown e = (e.pass, e.number, e.call, e.reply)
 
 abbrev pub FixesHistory : Type 0
-FixesHistory = (one other : List Entry) (left left' : List (ℕ × ℕ)) → RunFits one left → RunFits other left'
-    → printed_run one left ≡ printed_run other left' → (map shown one ≡ map shown other) × (left ≡ left')
+FixesHistory = (one other : List Entry) (left left' : List (ℕ × ℕ)) (shape shape' : Option (List ShapeLine))
+    → RunFits one left → RunFits other left' → printed_run one left shape ≡ printed_run other left' shape'
+    → (map shown one ≡ map shown other) × (left ≡ left')

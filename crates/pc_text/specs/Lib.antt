@@ -11,3 +11,4 @@ pub mod ScriptLine
 pub mod ScriptText
 pub mod ScriptValue
 pub mod ScriptWords
+pub mod Shapes

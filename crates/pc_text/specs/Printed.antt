@@ -1,11 +1,15 @@
--- The text of a run: a line for each call of the history, how many pairs are left, the pairs, and the end.
-use Rattle.std.specs.Prelude.{ℕ, ◌+◌, List, [], ◌∷◌, ◌++◌, length, codes}
+-- The text of a run: a line for each call of the history, how many pairs are left, the pairs, where it is wanted
+-- the shape of the tree, and the end.
+use Rattle.std.specs.Prelude.{ℕ, suc, ◌+◌, ℤ, pos, negsuc, Option, Some, None, List, [], ◌∷◌, ◌++◌, length, codes}
 use Rattle.std.specs.Fmt.{decimal}
+use denote.Bor.{Bor}
+use Rattle.std.specs.Option.{option_map}
 use Rattle.pc_model.specs.declared.call.Call.{Call}
 use Rattle.pc_model.specs.declared.call.Call.TheVariants.{Put, Get, Remove, Ceil, Floor}
 use Rattle.pc_model.specs.declared.call.Reply.{Reply}
 use Rattle.pc_model.specs.declared.call.Reply.TheVariants.{New, Was, Value, None as Nothing, Pair}
 use Rattle.pc_model.specs.declared.call.Entry.{Entry}
+use Rattle.pc_text.specs.declared.shape.ShapeLine.{ShapeLine}
 
 unfoldable pub call_text : Call → List ℕ
 call_text (Put k v) = codes "put " ++ decimal k ++ codes " " ++ decimal v
@@ -48,6 +52,38 @@ pair_lines (p ∷ ps) = pair_line p ++ pair_lines ps
 unfoldable pub end_line : List ℕ
 end_line = codes "end\n"
 
--- what is printed of a history and of the pairs that are left in the end
-abbrev pub printed_run : List Entry → List (ℕ × ℕ) → List ℕ
-printed_run history pairs = entry_lines 1 history ++ left_line (length pairs) ++ pair_lines pairs ++ end_line
+-- a number with a sign: `-` where it is negative
+abbrev pub signed_text : ℤ → List ℕ
+signed_text (pos n) = decimal n
+signed_text (negsuc n) = codes "-" ++ decimal (suc n)
+
+-- the line of a node: how deep it lies, its key, its height and its balance
+unfoldable pub node_line : ShapeLine → List ℕ
+node_line node = decimal node.depth ++ codes " " ++ decimal node.key ++ codes " " ++ decimal node.height ++ codes " "
+    ++ signed_text node.balance ++ codes "\n"
+
+abbrev pub node_lines : List ShapeLine → List ℕ
+node_lines [] = []
+node_lines (node ∷ nodes) = node_line node ++ node_lines nodes
+
+-- the height of the tree whose nodes these are, the root first
+abbrev pub tree_height : List ShapeLine → ℕ
+tree_height [] = 0
+tree_height (root ∷ nodes) = root.height
+
+unfoldable pub height_line : ℕ → List ℕ
+height_line height = codes "shape " ++ decimal height ++ codes "\n"
+
+-- nothing, or the height of the tree and a line for each node
+abbrev pub shape_lines : Option (List ShapeLine) → List ℕ
+shape_lines None = []
+shape_lines (Some nodes) = height_line (tree_height nodes) ++ node_lines nodes
+
+-- the nodes that a borrowed shape lists
+abbrev pub listed : Option (Bor (List ShapeLine)) → Option (List ShapeLine)
+listed shape = option_map (λ nodes. nodes.now) shape
+
+-- what is printed of a history, of the pairs that are left in the end, and of a shape or none
+abbrev pub printed_run : List Entry → List (ℕ × ℕ) → Option (List ShapeLine) → List ℕ
+printed_run history pairs shape =
+    entry_lines 1 history ++ left_line (length pairs) ++ pair_lines pairs ++ shape_lines shape ++ end_line

@@ -15,6 +15,7 @@ mod pieces;
 mod print;
 mod read;
 mod script;
+mod shape;
 mod words;
 
 pub use fault::{Fault, print_fault};
@@ -23,9 +24,10 @@ pub use laws::{
     empty_input_gives_empty_script, printed_run_fixes_history, written_commands_read_back,
 };
 pub use limits::{GREATEST_NUMBER, MOST_BYTES, MOST_CLIENTS, MOST_COMMANDS};
-pub use print::{Extras, ShapeLine, print_run};
+pub use print::{Extras, print_run};
 pub use read::read_script;
 pub use script::{Script, ScriptFault};
+pub use shape::ShapeLine;
 
 #[cfg(test)]
 mod print_tests;

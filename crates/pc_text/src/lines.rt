@@ -1,11 +1,12 @@
 //! The lines that are printed, and how one goes to a sink through a chunk.
 ghost use Rattle.std.specs.Prelude.{◌≡◌, ◌+◌, ◌≤◌, ◌++◌, length};
 ghost use Rattle.pc_edge.specs.Sending.{Writes};
-ghost use Rattle.pc_text.specs.Printed.{entry_line, pair_line, left_line, end_line};
+ghost use Rattle.pc_text.specs.Printed.{entry_line, pair_line, left_line, height_line, node_line, end_line};
 ghost use Rattle.pc_text.specs.LineText.{line_text};
 
 use crate::fault::{Fault, push_fault};
-use crate::pieces::{push_call, push_reply, push_turn};
+use crate::pieces::{push_call, push_reply, push_signed, push_turn};
+use crate::shape::ShapeLine;
 use pc_edge::{Chunk, Failed, SIZE, Sink};
 use pc_model::Entry;
 
@@ -21,6 +22,10 @@ pub(crate) enum Line {
     Left(usize),
     /// A pair that is left.
     Pair(u64, u64),
+    /// The height of the tree.
+    Height(u32),
+    /// A node of the tree.
+    Node(ShapeLine),
     /// The last line of a run.
     End,
     /// A fault.
@@ -45,6 +50,8 @@ fn push_line(chunk: &mut Chunk, line: Line)
         Line::Entry(place, entry) => push_entry(chunk, place, &entry),
         Line::Left(pairs) => push_left(chunk, pairs),
         Line::Pair(key, value) => push_pair(chunk, key, value),
+        Line::Height(height) => push_height(chunk, height),
+        Line::Node(node) => push_node(chunk, &node),
         Line::End => push_end(chunk),
         Line::Fault(fault) => push_fault(chunk, fault),
     }
@@ -86,6 +93,33 @@ fn push_left(chunk: &mut Chunk, pairs: usize)
 {
     chunk.push(b"left ");
     chunk.push_number(pairs as u64);
+    chunk.push_byte(b'\n');
+}
+
+/// Puts the line of a tree's height.
+#[tactic(auto, unfolding(crate::specs::Printed::height_line), using(std::proofs::Common::append_assoc))]
+fn push_height(chunk: &mut Chunk, height: u32)
+    requires { length chunk.old + ROOM ≤ SIZE }
+    ensures { chunk.new ≡ chunk.old ++ height_line height }
+{
+    chunk.push(b"shape ");
+    chunk.push_number(u64::from(height));
+    chunk.push_byte(b'\n');
+}
+
+/// Puts the line of a node.
+#[tactic(auto, unfolding(crate::specs::Printed::node_line), using(std::proofs::Common::append_assoc))]
+fn push_node(chunk: &mut Chunk, node: &ShapeLine)
+    requires { length chunk.old + ROOM ≤ SIZE }
+    ensures { chunk.new ≡ chunk.old ++ node_line node.now }
+{
+    chunk.push_number(u64::from(node.depth));
+    chunk.push_byte(b' ');
+    chunk.push_number(node.key);
+    chunk.push_byte(b' ');
+    chunk.push_number(u64::from(node.height));
+    chunk.push_byte(b' ');
+    push_signed(chunk, node.balance);
     chunk.push_byte(b'\n');
 }
 

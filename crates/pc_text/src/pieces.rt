@@ -1,6 +1,6 @@
 //! The pieces that lines are made of, put into a chunk that has room for them.
 ghost use Rattle.std.specs.Prelude.{◌≡◌, ◌+◌, ◌≤◌, ◌++◌, length};
-ghost use Rattle.pc_text.specs.Printed.{call_text, reply_text, turn_text};
+ghost use Rattle.pc_text.specs.Printed.{call_text, reply_text, signed_text, turn_text};
 
 use pc_edge::{Chunk, SIZE};
 use pc_model::{Call, Reply};
@@ -71,4 +71,17 @@ pub(crate) fn push_reply(chunk: &mut Chunk, reply: &Reply)
             chunk.push_number(value);
         }
     }
+}
+
+/// Puts a number with its sign, `-` where it is negative.
+#[tactic(auto, using(std::proofs::Common::append_assoc))]
+pub(crate) fn push_signed(chunk: &mut Chunk, number: i64)
+    requires { length chunk.old + 21 ≤ SIZE }
+    ensures text { chunk.new ≡ chunk.old ++ signed_text number }
+    ensures short { length chunk.new ≤ length chunk.old + 21 }
+{
+    if number < 0 {
+        chunk.push_byte(b'-');
+    }
+    chunk.push_number(number.unsigned_abs());
 }

@@ -1,24 +1,12 @@
 //! What a run prints: its history, the pairs that are left, and the end.
-ghost use Rattle.std.specs.Prelude.{◌≡◌, [], ◌++◌, false, IsNone};
+ghost use Rattle.std.specs.Prelude.{◌≡◌, [], ◌++◌, false};
 ghost use Rattle.pc_edge.specs.Sending.{Writes};
-ghost use Rattle.pc_text.specs.Printed.{entry_lines, pair_lines, printed_run};
+ghost use Rattle.pc_text.specs.Printed.{entry_lines, pair_lines, node_lines, shape_lines, tree_height, listed, printed_run};
 
 use crate::lines::{Line, print_line};
+use crate::shape::ShapeLine;
 use pc_edge::{Chunk, Failed, Sink};
 use pc_model::Entry;
-
-/// A node of a tree, as its shape is printed.
-#[derive(Clone, Copy, Debug, PartialEq, Eq)]
-pub struct ShapeLine {
-    /// How far below the root it is.
-    pub depth: u32,
-    /// Its key.
-    pub key: u64,
-    /// Its height.
-    pub height: u32,
-    /// The height of its left side less that of its right side.
-    pub balance: i64,
-}
 
 /// What is printed besides the history and the pairs.
 #[derive(Clone, Copy, Debug)]
@@ -36,16 +24,15 @@ pub fn print_run<K: Sink>(
     pairs: &[(u64, u64)],
     extras: Extras,
 ) -> Result<(), Failed>
-    // Neither shapes nor summaries have a text yet.
-    requires no_shape { IsNone extras.shape }
+    // A summary has no text yet.
     requires no_summary { extras.summary ≡ false }
-    ensures { Writes K.held K.faults sink.old sink.new (printed_run history.now pairs.now) [] result }
+    ensures { Writes K.held K.faults sink.old sink.new (printed_run history.now pairs.now (listed extras.entry.shape)) [] result }
 {
-    let _ = extras;
     let mut chunk = Chunk::new();
     print_entries(sink, &mut chunk, history)?;
     print_line(sink, &mut chunk, Line::Left(pairs.len()))?;
     print_pairs(sink, &mut chunk, pairs)?;
+    print_shape(sink, &mut chunk, extras.shape)?;
     print_line(sink, &mut chunk, Line::End)?;
     chunk.flush(sink)
 }
@@ -66,6 +53,48 @@ fn print_pairs<K: Sink>(sink: &mut K, chunk: &mut Chunk, pairs: &[(u64, u64)]) -
 {
     for (key, value) in pairs {
         print_line(sink, chunk, Line::Pair(*key, *value))?;
+    }
+    Ok(())
+}
+
+/// Sends the lines of a shape, if one is wanted, through the chunk.
+fn print_shape<K: Sink>(
+    sink: &mut K,
+    chunk: &mut Chunk,
+    shape: Option<&[ShapeLine]>,
+) -> Result<(), Failed>
+    ensures { Writes K.held K.faults sink.old sink.new (chunk.old ++ shape_lines (listed shape.entry)) chunk.new result }
+{
+    match shape {
+        Some(nodes) => print_tree(sink, chunk, nodes),
+        None => Ok(()),
+    }
+}
+
+/// Sends a tree's height and the lines of its nodes through the chunk.
+fn print_tree<K: Sink>(sink: &mut K, chunk: &mut Chunk, nodes: &[ShapeLine]) -> Result<(), Failed>
+    ensures { Writes K.held K.faults sink.old sink.new (chunk.old ++ shape_lines (Some nodes.now)) chunk.new result }
+{
+    print_line(sink, chunk, Line::Height(height_in(nodes)))?;
+    print_nodes(sink, chunk, nodes)
+}
+
+// The height of the tree that these nodes are, the root first.
+fn height_in(nodes: &[ShapeLine]) -> u32
+    ensures { result ≡ tree_height nodes.now }
+{
+    match nodes.first() {
+        Some(root) => root.height,
+        None => 0,
+    }
+}
+
+/// Sends the lines of nodes through the chunk.
+fn print_nodes<K: Sink>(sink: &mut K, chunk: &mut Chunk, nodes: &[ShapeLine]) -> Result<(), Failed>
+    ensures { Writes K.held K.faults sink.old sink.new (chunk.old ++ node_lines nodes.now) chunk.new result }
+{
+    for node in nodes {
+        print_line(sink, chunk, Line::Node(*node))?;
     }
     Ok(())
 }

@@ -6,10 +6,27 @@ use pc_model::{Call, Counter, Entry, Memory, Reply};
 use std::alloc::Global;
 use std::test::Fail;
 
-const PLAIN: Extras = Extras {
-    shape: None,
-    summary: false,
-};
+const TWO_NODES: &[ShapeLine] = &[
+    ShapeLine {
+        depth: 1,
+        key: 3,
+        height: 2,
+        balance: 1,
+    },
+    ShapeLine {
+        depth: 2,
+        key: 1,
+        height: 1,
+        balance: 0,
+    },
+];
+
+const LEANING_RIGHT: &[ShapeLine] = &[ShapeLine {
+    depth: 1,
+    key: 15,
+    height: 3,
+    balance: -1,
+}];
 
 const TWO_CALLS: &[Entry] = &[
     Entry {
@@ -71,27 +88,68 @@ fn a_run_has_its_text_or_a_front_of_it(rt: HostRuntime) -> Result<(), Fail> {
     let rows: [(
         &[Entry],
         &[(u64, u64)],
+        Option<&[ShapeLine]>,
         usize,
         usize,
         Result<(), Failed>,
         &[u8],
-    ); 5] = [
-        (TWO_CALLS, &[(5, 50)], 1000, 1, Ok(()), TWO_LINES),
-        (TWO_CALLS, &[(5, 50)], 1000, 1000, Ok(()), TWO_LINES),
+    ); 8] = [
+        (TWO_CALLS, &[(5, 50)], None, 1000, 1, Ok(()), TWO_LINES),
+        (TWO_CALLS, &[(5, 50)], None, 1000, 1000, Ok(()), TWO_LINES),
+        (
+            &[],
+            &[],
+            Some(&[]),
+            100,
+            9,
+            Ok(()),
+            b"left 0\nshape 0\nend\n",
+        ),
+        (
+            &[],
+            &[],
+            Some(TWO_NODES),
+            100,
+            9,
+            Ok(()),
+            b"left 0\nshape 2\n1 3 2 1\n2 1 1 0\nend\n",
+        ),
+        (
+            &[],
+            &[],
+            Some(LEANING_RIGHT),
+            100,
+            9,
+            Ok(()),
+            b"left 0\nshape 3\n1 15 3 -1\nend\n",
+        ),
         (
             OTHER_CALLS,
             &[(1, 2), (11, 12)],
+            None,
             1000,
             7,
             Ok(()),
             OTHER_LINES,
         ),
-        (TWO_CALLS, &[(5, 50)], 0, 1000, Err(Failed), b""),
-        (TWO_CALLS, &[(5, 50)], 10, 1000, Err(Failed), b"1 1.1 put "),
+        (TWO_CALLS, &[(5, 50)], None, 0, 1000, Err(Failed), b""),
+        (
+            TWO_CALLS,
+            &[(5, 50)],
+            None,
+            10,
+            1000,
+            Err(Failed),
+            b"1 1.1 put ",
+        ),
     ];
-    for (history, pairs, room, piece, result, text) in rows {
+    for (history, pairs, shape, room, piece, result, text) in rows {
+        let extras = Extras {
+            shape,
+            summary: false,
+        };
         let mut sink = sink_with(rt.alloc(), room, piece).expect(&rt, "ample memory");
-        let ended = print_run(&mut sink, history, pairs, PLAIN);
+        let ended = print_run(&mut sink, history, pairs, extras);
         assert_eq!(rt; (ended, sink.held.as_slice()), (result, text));
     }
     printed_run_fixes_history();
