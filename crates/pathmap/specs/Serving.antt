@@ -1,5 +1,5 @@
 -- How a run of the program ends: what was printed where it ended well, and why where it didn't.
-use Rattle.std.specs.Prelude.{◌≡◌, ◌≢◌, ℕ, ◌<◌, ◌≤◌, ◌⊎◌, List, [], length, Option, Result, Ok, Err, IsErr, IfSome}
+use Rattle.std.specs.Prelude.{◌≡◌, ◌≢◌, ℕ, ◌<◌, ◌≤◌, ◌⊎◌, List, [], length, Option, None, Result, Ok, Err, IsErr, IfSome}
 use Rattle.std.specs.Io.KnownBytes.{Appends, IsAtEnd}
 use Rattle.pc_model.specs.declared.call.Entry.{Entry}
 use Rattle.pc_model.specs.Map.{Pairs}
@@ -50,14 +50,14 @@ pub record PrintsOneHistory (input rest held held' : Option (List ℕ)) : Type 0
   pub history : List Entry
   pub pairs : Pairs
   pub run : HasRunAll input rest history pairs
-  pub printed : Appends held held' (printed_run history pairs)
+  pub printed : Appends held held' (printed_run history pairs None)
 
 -- a front of that was written before the sink failed
 pub record PrintsFront (input rest held held' : Option (List ℕ)) : Type 0 where
   pub history : List Entry
   pub pairs : Pairs
   pub run : HasRunAll input rest history pairs
-  pub front : AppendsFront held held' (printed_run history pairs)
+  pub front : AppendsFront held held' (printed_run history pairs None)
 
 -- why a run ends in a fault: there isn't exactly one word, the input is too long, it has a bad line or
 -- more than one client, or the source failed; want of memory needs no cause, and the other faults don't
