@@ -6,7 +6,7 @@ ghost use Rattle.pc_plain.specs.PlainRuns.{HoldsPairs};
 
 use pc_bst::{BstGet, BstPut, BstRemove};
 use pc_model::{Memory, Reply};
-use pc_plain::{NoPlainSlot, PlainCells, pairs, run_plan};
+use pc_plain::{NoPlainSlot, PlainCells, pairs, run_plan, shape};
 use std::alloc::Global;
 
 /// What is called, with small keys and values.
@@ -59,6 +59,26 @@ fn runs_so(
     }
     let listed = pairs(alloc, &cells)?;
     Ok(listed.as_slice() == left)
+}
+
+/// Whether the tree has this shape, as depth, key, height and balance, after the puts of these keys and then
+/// the remove of one.
+fn has_shape_so(
+    alloc: Global,
+    puts: &[u32],
+    removed: u32,
+    wanted: &[(u32, u64, u32, i64)],
+) -> Result<bool, Memory> {
+    let mut cells = opened(alloc, 6)?;
+    for key in puts {
+        let _ = answer(&mut cells, Called::Put(*key, *key));
+    }
+    let _ = answer(&mut cells, Called::Remove(removed));
+    let lines = shape(alloc, &cells)?;
+    let found = lines
+        .iter()
+        .map(|line| (line.depth, line.key, line.height, line.balance));
+    Ok(found.eq(wanted.iter().copied()))
 }
 
 const FULL: Answer = Err(NoPlainSlot { live: 2 });
@@ -151,4 +171,24 @@ fn full_cells_refuse_a_new_key_and_stay(rt: HostRuntime) {
         &[(2, 2), (3, 3)],
     );
     assert!(rt; refused == Ok(true) && freed == Ok(true));
+}
+
+#[test]
+fn shapes_are_those_worked_out(rt: HostRuntime) {
+    let alloc = rt.alloc();
+    let empty = has_shape_so(alloc, &[4], 4, &[]);
+    let of_three = has_shape_so(alloc, &[2, 1, 3], 2, &[(1, 3, 2, 1), (2, 1, 1, 0)]);
+    let of_six = has_shape_so(
+        alloc,
+        &[10, 5, 20, 15, 25, 17],
+        10,
+        &[
+            (1, 15, 3, -1),
+            (2, 5, 1, 0),
+            (2, 20, 2, 0),
+            (3, 17, 1, 0),
+            (3, 25, 1, 0),
+        ],
+    );
+    assert_eq!(rt; [empty, of_three, of_six], [Ok(true); 3]);
 }
