@@ -1,8 +1,8 @@
--- The plans charge nothing.
-use Rattle.std.proofs.Common.{ℕ, ◌==◌, [], ◌∷◌, Option, Some, None}
-use Rattle.std.proofs.Common.{refl}
+-- In a plain tree the plans charge nothing.
+use Rattle.std.proofs.Common.{◌≡◌, ℕ, ◌==◌, List, [], ◌∷◌, Option, Some, None}
+use Rattle.std.proofs.Common.{refl, ap}
 use Rattle.std.proofs.lemmas.Bool.{cond_both}
-use Rattle.pc_model.specs.declared.cell.Field.TheVariants.{Value as ValueField, Left as LeftLink}
+use Rattle.pc_model.specs.declared.cell.Field.TheVariants.{Left as LeftLink}
 use Rattle.pc_model.specs.Map.{IsKey, IsPair}
 use Rattle.pc_model.specs.Cells.{node_at}
 use Rattle.pc_model.specs.Debts.{has}
@@ -16,42 +16,49 @@ use Rattle.pc_plan.specs.declared.walk.Step.{Step}
 use Rattle.pc_plan.specs.declared.walk.Step.TheVariants.{Visit, Read, Here, Missing, Astray}
 use Rattle.pc_plan.specs.EndLaws.{IsFree, ChargesNothing}
 use Rattle.pc_plan.specs.Walks.{on_way, way, walk_step}
+use Rattle.pc_plan.specs.Traces.{after}
 use Rattle.pc_plan.proofs.Quiets.{asks_by_steps}
-use Rattle.pc_bst.specs.declared.put.PutPhase.{PutPhase}
-use Rattle.pc_bst.specs.declared.put.PutPhase.TheVariants.{Walking, Reading, Ended}
-use Rattle.pc_bst.specs.declared.put.BstPut.{BstPut}
+use Rattle.pc_bst.specs.declared.tree_put.PutPhase.{PutPhase}
+use Rattle.pc_bst.specs.declared.tree_put.PutPhase.TheVariants.{Walking, Reading, Ended}
+use Rattle.pc_bst.specs.declared.tree_put.TreePut.{TreePut}
+use Rattle.pc_bst.specs.declared.kind.TreeKind.{TreeKind}
+use Rattle.pc_bst.specs.declared.kind.TreeKind.TheVariants.{Plain}
+use Rattle.pc_bst.specs.Kinds.{leaf_charges}
 use Rattle.pc_bst.specs.declared.remove.RemovePhase.{RemovePhase}
 use Rattle.pc_bst.specs.declared.remove.RemovePhase.TheVariants.{Walking as Removing, ReadingLeft, ReadingRight}
 use Rattle.pc_bst.specs.declared.remove.RemovePhase.TheVariants.{ReadingValue, Visiting, ReadingNext, ReadingNextKey}
 use Rattle.pc_bst.specs.declared.remove.RemovePhase.TheVariants.{ReadingNextValue, ReadingNextRight, Ended as Gone}
 use Rattle.pc_bst.specs.declared.remove.BstRemove.{BstRemove}
-use Rattle.pc_bst.specs.Puts.{put_at, put_of, put_walked, put_told, put_moves}
+use Rattle.pc_bst.specs.Puts.{put_of, put_passes, put_reads, put_walked, put_told, put_moves}
 use Rattle.pc_bst.specs.Removes.{remove_of, with_walk, with_value, remove_reads, remove_gives_up, visiting_below}
 use Rattle.pc_bst.specs.Removes.{going_below, chosen, following, remove_walked, remove_told, remove_moves}
 
-abbrev IsFreePut : BstPut × Ask → Type 0
-IsFreePut s = IsFree s.1
+-- the put is one into a plain tree, and charges nothing
+abbrev IsFreePut : TreePut × Ask → Type 0
+IsFreePut s = (s.0.kind ≡ Plain) × IsFree s.1
 
-put_walked_free : (p : BstPut) (w : Walk) (s : Step) → IsFreePut (put_walked p w s)
-put_walked_free p w (Visit n) = tt
-put_walked_free p w (Read n f) = tt
-put_walked_free p w (Here x) =
-    cond_both (x == w.key) (put_at w p.value Reading, AskRead w.node ValueField) (
-      put_at (on_way w x) p.value p.phase,
-      AskRead w.node (way w x),
-    ) IsFreePut (λ _. tt) (λ _. tt)
-put_walked_free p w (Missing s link) = refl
-put_walked_free p w Astray = tt
+put_walked_free : (p : TreePut) (w : Walk) (s : Step) → p.kind ≡ Plain → IsFreePut (put_walked p w s)
+put_walked_free p w (Visit n) plain_one = (plain_one, tt)
+put_walked_free p w (Read n f) plain_one = (plain_one, tt)
+put_walked_free p w (Here x) plain_one =
+    cond_both (x == w.key) (put_reads p w) (put_passes p w x) IsFreePut (λ _. (plain_one, tt)) (λ _. (plain_one, tt))
+put_walked_free p w (Missing s link) plain_one =
+    (plain_one, ap (λ (k : TreeKind). leaf_charges k w.node p.above_key) plain_one)
+put_walked_free p w Astray plain_one = (plain_one, tt)
 
-put_told_free : (p : BstPut) (phase : PutPhase) (t : Told) → IsFreePut (put_told p phase t)
-put_told_free p Walking t = put_walked_free p (walk_step p.walk t).0 (walk_step p.walk t).1
-put_told_free p Reading Begin = tt
-put_told_free p Reading (Version v) = tt
-put_told_free p Reading (Number x) = refl
-put_told_free p Ended t = tt
+put_told_free : (p : TreePut) (phase : PutPhase) (t : Told) → p.kind ≡ Plain → IsFreePut (put_told p phase t)
+put_told_free p Walking t plain_one = put_walked_free p (walk_step p.walk t).0 (walk_step p.walk t).1 plain_one
+put_told_free p Reading Begin plain_one = (plain_one, tt)
+put_told_free p Reading (Version v) plain_one = (plain_one, tt)
+put_told_free p Reading (Number x) plain_one = (plain_one, refl)
+put_told_free p Ended t plain_one = (plain_one, tt)
 
-pub put_charges_nothing : ChargesNothing put_of put_moves IsPair
-put_charges_nothing call ts pair = asks_by_steps put_of put_moves IsFree (λ p t. put_told_free p p.phase t) call ts
+put_after_free : (ts : List Told) (s : TreePut × Ask) → IsFreePut s → IsFreePut (after put_moves s ts)
+put_after_free [] s h = h
+put_after_free (t ∷ ts) s h = put_after_free ts (put_moves s.0 t) (put_told_free s.0 s.0.phase t h.0)
+
+pub put_charges_nothing : ChargesNothing (put_of Plain) put_moves IsPair
+put_charges_nothing call ts pair = (put_after_free ts (put_moves (put_of Plain call) Begin) (refl, tt)).1
 
 abbrev IsFreeRemove : BstRemove × Ask → Type 0
 IsFreeRemove s = IsFree s.1

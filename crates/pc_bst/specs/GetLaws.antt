@@ -1,4 +1,5 @@
--- The laws of a get: its course on sound cells, and what it keeps whatever it is told.
+-- The laws of a get, on either kind of search tree: its course on sound cells, and what it keeps whatever it
+-- is told.
 use Rattle.std.proofs.Common.{◌≡◌, ℕ, ◌+◌, ◌*◌, ◌==◌, inl, List, [], Some, None}
 use Rattle.std.proofs.Common.{refl, sym, ap, subst, arith}
 use Rattle.std.proofs.lemmas.Bool.{eq-eqb, ne_eqb, cond-true, cond-false, cond_both}
@@ -8,7 +9,7 @@ use Rattle.pc_model.specs.declared.cell.Field.TheVariants.{Key as KeyField}
 use Rattle.pc_model.specs.Map.{Pairs, IsKey, value_at, value_or_nothing}
 use Rattle.pc_model.specs.Cells.{Cells, IsSlot}
 use Rattle.pc_model.specs.Sides.{link_of}
-use Rattle.pc_model.specs.Trees.{plain, IsTreeNode, IsSearchTree}
+use Rattle.pc_model.specs.Trees.{Kind, IsTreeNode, IsSearchTree}
 use Rattle.pc_model.specs.TreeForms.{tree_form}
 use Rattle.pc_model.proofs.HolePairs.{value_at-hole, value_at-empty_hole}
 use Rattle.pc_model.proofs.TreeFormLaws.{tree_form_laws}
@@ -43,23 +44,22 @@ use Rattle.pc_bst.specs.Gets.{get_at, get_of, get_walked, get_told, get_moves}
 abbrev get_terms : ℕ → Terms
 get_terms k = map_terms (Get k)
 
-abbrev pub GetsRight : ℕ → Cells → Pairs → ℕ → List Event → Ask → Type 0
-GetsRight slots c ps k past a = EndsRight (tree_form plain) slots c ps (get_terms k) past a × IsAnswer a
+abbrev pub GetsRight : Kind → ℕ → Cells → Pairs → ℕ → List Event → Ask → Type 0
+GetsRight kind slots c ps k past a = EndsRight (tree_form kind) slots c ps (get_terms k) past a × IsAnswer a
 
-module _ (slots : ℕ) (c : Cells) (ps : Pairs) (k : ℕ) (ready : IsReady (tree_form plain) slots c ps) where
-  tree : IsSearchTree plain slots c ps
+module _ (kind : Kind) (slots : ℕ) (c : Cells) (ps : Pairs) (k : ℕ) (ready : IsReady (tree_form kind) slots c ps) where
+  tree : IsSearchTree kind slots c ps
   tree = ready.is_sound
 
   abbrev Goes : ℕ → List Event → BstGet × Ask → Type 0
-  Goes turns past s = Course slots c get_moves (GetsRight slots c ps k) s.1 turns past s.0
+  Goes turns past s = Course slots c get_moves (GetsRight kind slots c ps k) s.1 turns past s.0
 
   abbrev walked : Walk → Step → BstGet × Ask
   walked w s = get_walked (get_at w Walking) w s
 
-  get_course : Course slots c get_moves (GetsRight slots c ps k) (get_moves (get_of k) Begin).1 (6 * slots + (1 + 3))
-      [] (get_moves (get_of k) Begin).0
-  get_course = walk_to_key slots c plain ps ready.few tree k get_moves (GetsRight slots c ps k) (λ w. get_at w Walking)
-      walked
+  get_course : Goes (6 * slots + (1 + 3)) [] (get_moves (get_of k) Begin)
+  get_course = walk_to_key slots c kind ps ready.few tree k get_moves (GetsRight kind slots c ps k)
+      (λ w. get_at w Walking) walked
       (λ w t. refl) (λ w n. refl) (λ w n f. refl)
       (λ w x ne. cond-false (x == w.key) (get_at w Reading, AskRead w.node ValueField) (
         get_at (on_way w x) Walking,
@@ -67,11 +67,11 @@ module _ (slots : ℕ) (c : Cells) (ps : Pairs) (k : ℕ) (ready : IsReady (tree
       ) (ne_eqb x w.key (λ e. ne (sym e))))
       1
       (λ q s n l r h e past unseen_l unseen_r.
-      let w : Walk = walk_at slots c plain ps ready.few tree k (left_node slots c plain ps ready.few tree k q s) n
+      let w : Walk = walk_at slots c kind ps ready.few tree k (left_node slots c kind ps ready.few tree k q s) n
       Choice in
-      let node : IsTreeNode plain slots c q n = h.spelled.1 in
+      let node : IsTreeNode kind slots c q n = h.spelled.1 in
       let slot : IsSlot slots n = node.slot in
-      let found : value_at k ps ≡ Some (c n ValueField) = value_at-hole plain slots c ps tree.tree k q (link_of s) n l
+      let found : value_at k ps ≡ Some (c n ValueField) = value_at-hole kind slots c ps tree.tree k q (link_of s) n l
       r tree.rising h (sym e) in
       let reading : BstGet × Ask = (get_at w Reading, AskRead n ValueField) in
       let next : walked w (Here (c n KeyField)) ≡ reading
@@ -82,12 +82,14 @@ module _ (slots : ℕ) (c : Cells) (ps : Pairs) (k : ℕ) (ready : IsReady (tree
       ) (eq-eqb (c n KeyField) k (sym e)) in
       subst (Goes 1 past) (sym next) ((omega arith, omega arith), ((sym (ap value_or_nothing found), refl, tt), tt)))
       (λ q s a h past.
-      let missing : value_at k ps ≡ None = value_at-empty_hole plain slots c ps tree.tree k q (link_of s) h in
+      let missing : value_at k ps ≡ None = value_at-empty_hole kind slots c ps tree.tree k q (link_of s) h in
       ((sym (ap value_or_nothing missing), refl, tt), tt))
 
-get_runs : Runs get_of get_moves IsKey get_terms (tree_form plain)
-get_runs = runs_by_course get_of get_moves IsKey get_terms (tree_form plain) GetsRight (λ slots c ps k past a h. h.0)
-    (λ slots. 6 * slots + (1 + 3)) (λ slots. omega arith) (λ slots c ps k ready key. get_course slots c ps k ready)
+get_runs : (kind : Kind) → Runs get_of get_moves IsKey get_terms (tree_form kind)
+get_runs kind = runs_by_course get_of get_moves IsKey get_terms (tree_form kind) (GetsRight kind)
+    (λ slots c ps k past a h. h.0)
+    (λ slots. 6 * slots + (1 + 3)) (λ slots. omega arith)
+    (λ slots c ps k ready key. get_course kind slots c ps k ready)
 
 -- Whatever it is told.
 
@@ -139,11 +141,11 @@ get_lawful = record {
       (get_moves (get_of k) Begin) words (refl, refl, inl refl));
 }
 
-pub get_laws : PlanLaws get_of get_moves IsKey (λ k. map_terms (Get k)) (tree_form plain)
-get_laws = record {
-  runs = get_runs;
+pub get_laws : (kind : Kind) → PlanLaws get_of get_moves IsKey (λ k. map_terms (Get k)) (tree_form kind)
+get_laws kind = record {
+  runs = get_runs kind;
   lawful = get_lawful;
-  form_laws = tree_form_laws plain;
+  form_laws = tree_form_laws kind;
   settles_nothing = λ k reply some. refl;
 }
 

@@ -1,5 +1,6 @@
 pub mod GetLaws
 pub mod Gets
+pub mod Kinds
 pub mod PutEnds
 pub mod PutLaws
 pub mod Puts

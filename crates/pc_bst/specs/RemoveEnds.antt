@@ -36,13 +36,13 @@ pub lifted_fields_differ : (s : Side) (a b x d e g : ℕ) → AreFields (renumbe
 lifted_fields_differ Left a b x d e g = (refl, (refl, (refl, tt)))
 lifted_fields_differ Right a b x d e g = (refl, (refl, (refl, tt)))
 
-link_looked_up : (s : Side) (slot a b x d e g old : ℕ) → looked_up slot (link_of s) (renumbered KeyField a b
+pub link_looked_up : (s : Side) (slot a b x d e g old : ℕ) → looked_up slot (link_of s) (renumbered KeyField a b
     ∷ renumbered ValueField x d ∷ renumbered (link_of s) e g ∷ []) old ≡ g
 link_looked_up Left slot a b x d e g old = refl
 link_looked_up Right slot a b x d e g old = refl
 
 -- the version of a node that is marked goes from even to odd
-odd_after : (v : ℕ) → IsEven v → IsOdd ((v + 1) % 2 ^ 64)
+pub odd_after : (v : ℕ) → IsEven v → IsOdd ((v + 1) % 2 ^ 64)
 odd_after v even = let e : v % 2 ≡ 0 = even in omega (arith, e)
 
 module _ (slots : ℕ) (c : Cells) (ps : Pairs) (k : ℕ) (past : List Event) (slot : ℕ) where

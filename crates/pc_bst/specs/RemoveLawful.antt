@@ -62,11 +62,11 @@ pub record IsToldNext (past : List Event) (target node version : ℕ) (above : A
   pub other : node ≢ target
 
 -- a number that fits
-abbrev Fits : ℕ → Type 0
+abbrev pub Fits : ℕ → Type 0
 Fits x = x < 2 ^ 62
 
 -- it waits for the answer to a read of a node, after so many reads of it
-abbrev WaitsFor : List Event → Ask → ℕ → Field → ℕ → Type 0
+abbrev pub WaitsFor : List Event → Ask → ℕ → Field → ℕ → Type 0
 WaitsFor past a n f reads = (a ≡ AskRead n f) × (reads_since_visit past ≡ reads)
 
 abbrev NextStands : List Event → BstRemove → Type 0
@@ -95,7 +95,7 @@ RemoveKeeps past s = RemoveStands past s.0 s.1 s.0.phase
 
 -- What stays told
 
-at_key_read : (past : List Event) (w : Walk) (f : Field) (x : ℕ) → field_number f ≢ 1 → IsAtKey past w
+pub at_key_read : (past : List Event) (w : Walk) (f : Field) (x : ℕ) → field_number f ≢ 1 → IsAtKey past w
     → IsAtKey (found w.node f x ∷ past) w
 at_key_read past w f x ne h = record {
   below = below_read past w f x h.below;
@@ -103,15 +103,15 @@ at_key_read past w f x ne h = record {
       x past ne ∙ h.key;
 }
 
-target_read : (past : List Event) (w : Walk) (value m : ℕ) (f : Field) (x : ℕ) → m ≢ w.node → IsToldTarget past w value
-    → IsToldTarget (found m f x ∷ past) w value
+pub target_read : (past : List Event) (w : Walk) (value m : ℕ) (f : Field) (x : ℕ) → m ≢ w.node
+    → IsToldTarget past w value → IsToldTarget (found m f x ∷ past) w value
 target_read past w value m f x ne h = record {
   come = come_read past w m f x h.come;
   key = number_seen-else w.node KeyField m f x past ne ∙ h.key;
   old_value = number_seen-else w.node ValueField m f x past ne ∙ h.old_value;
 }
 
-target_visit : (past : List Event) (w : Walk) (value m v : ℕ) → m ≢ w.node → IsToldTarget past w value
+pub target_visit : (past : List Event) (w : Walk) (value m v : ℕ) → m ≢ w.node → IsToldTarget past w value
     → IsToldTarget (visited m v ∷ past) w value
 target_visit past w value m v ne h = record {
   come = record { seen = version_seen-else w.node m v past ne ∙ h.come.seen; small = h.come.small };
@@ -119,7 +119,7 @@ target_visit past w value m v ne h = record {
   old_value = number_seen-visit w.node ValueField m v past ne ∙ h.old_value;
 }
 
-next_read : (past : List Event) (target node version : ℕ) (above : Above) (f : Field) (x : ℕ)
+pub next_read : (past : List Event) (target node version : ℕ) (above : Above) (f : Field) (x : ℕ)
     → IsToldNext past target node version above
     → IsToldNext (found node f x ∷ past) target node version above
 next_read past target node version above f x h = record {
@@ -401,7 +401,7 @@ remove_keeps past s (Number x) word h = number_keeps past s.0 s.1 s.0.phase x wo
 
 -- What it asks is lawful.
 
-waits_lawfully : (past : List Event) (a : Ask) (n : ℕ) (f : Field) (reads v : ℕ) → WaitsFor past a n f reads
+pub waits_lawfully : (past : List Event) (a : Ask) (n : ℕ) (f : Field) (reads v : ℕ) → WaitsFor past a n f reads
     → reads < 8 → version_seen n past ≡ Some v → IsLawfulAsk past a
 waits_lawfully past a n f reads v waits few seen =
     let same : reads_since_visit past ≡ reads = waits.1 in

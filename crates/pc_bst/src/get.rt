@@ -45,7 +45,7 @@ impl Plan for BstGet {
 
     ghost form = { tree_form plain };
 
-    ghost laws = { get_laws };
+    ghost laws = { get_laws plain };
 
     fn begin(call: u64) -> BstGet {
         BstGet {
@@ -78,7 +78,9 @@ impl BstGet {
     /// Tells the walk something, and asks for what it does next.
     #[inline]
     fn walk_on(&mut self, told: Told) -> Turn
-        ensures { (p : Planned) → (self.new, asked result p) ≡ get_walked self.old (walk_step self.old.walk told).0 (walk_step self.old.walk told).1 }
+        ensures { (p : Planned)
+            → (self.new, asked result p) ≡ get_walked self.old (walk_step self.old.walk told).0
+            (walk_step self.old.walk told).1 }
     {
         match self.walk.step(told) {
             Step::Visit(node) => Turn::Visit(node),

@@ -5,7 +5,8 @@ ghost use Rattle.std.specs.Prelude.{◌≡◌};
 ghost use Rattle.pc_model.specs.Cells.{node_at};
 ghost use Rattle.pc_plan.specs.Asking.{asked};
 ghost use Rattle.pc_plan.specs.NodeChanges.{planned_by};
-ghost use Rattle.pc_bst.specs.Removes.{remove_walked, remove_reads, remove_gives_up, remove_ends, unlinked, lifted, chosen, following, going_below};
+ghost use Rattle.pc_bst.specs.Removes.{remove_walked, remove_reads, remove_gives_up, remove_ends, unlinked, lifted};
+ghost use Rattle.pc_bst.specs.Removes.{chosen, following, going_below};
 
 use pc_model::{Call, Field, Reply, Settle, Side};
 use pc_plan::{Above, Change, Plan, Step, To, Told, Turn, Walk, leads_back, node_of};
@@ -148,7 +149,9 @@ impl BstRemove {
     /// Tells the walk something, and asks for what it does next.
     #[inline]
     fn walk_on(&mut self, told: Told) -> Turn
-        ensures { (p : Planned) → (self.new, asked result p) ≡ remove_walked self.old (walk_step self.old.walk told).0 (walk_step self.old.walk told).1 }
+        ensures { (p : Planned)
+            → (self.new, asked result p) ≡ remove_walked self.old (walk_step self.old.walk told).0
+            (walk_step self.old.walk told).1 }
     {
         match self.walk.step(told) {
             Step::Visit(node) => Turn::Visit(node),
@@ -164,7 +167,8 @@ impl BstRemove {
     /// Unlinks the node with the key where it has at most one child, else goes to its successor.
     #[inline(always)]
     fn choose(&mut self, change: &mut Change) -> Turn
-        ensures { (self.new, asked result change.new) ≡ chosen self.old (node_at self.old.left) (node_at self.old.right) }
+        ensures { (self.new, asked result change.new) ≡ chosen self.old (node_at self.old.left)
+            (node_at self.old.right) }
     {
         match (node_of(self.left), node_of(self.right)) {
             (Some(_), Some(below)) => {

@@ -3,14 +3,16 @@
 use Rattle.std.proofs.Common.{◌≡◌, ℕ, ◌^◌, ◌<◌, ◌==◌, ⊎_elim, List, [], ◌∷◌, Some, sym, ◌∙◌, subst, arith}
 use Rattle.std.proofs.lemmas.Bool.{cases_eq, eq-eqb, ne_eqb, cond-true, cond-false}
 use Rattle.pc_model.specs.declared.cell.Field.{Field}
-use Rattle.pc_model.specs.declared.cell.Field.TheVariants.{Version as VersionField, Key, Value, Left, Right, Parent, Height, Spare}
+use Rattle.pc_model.specs.declared.cell.Field.TheVariants.{Version as VersionField, Key, Value, Left, Right, Parent}
+use Rattle.pc_model.specs.declared.cell.Field.TheVariants.{Height, Spare}
 use Rattle.pc_model.specs.Cells.{Cells, IsEven, IsNode}
 use Rattle.pc_plan.specs.declared.plan.Ask.{Ask}
 use Rattle.pc_plan.specs.declared.plan.Ask.TheVariants.{Visit, Read, Change, Answer}
 use Rattle.pc_plan.specs.declared.plan.Told.{Told}
 use Rattle.pc_plan.specs.declared.plan.Told.TheVariants.{Begin, Version, Number}
 use Rattle.pc_plan.specs.Lawful.{IsWord, AreWords}
-use Rattle.pc_plan.specs.Traces.{Event, visited, found, learned, Tells, Fitting, after, learned_along, Agrees, IsAnswered, version_seen}
+use Rattle.pc_plan.specs.Traces.{Event, visited, found, learned, Tells, Fitting, after, learned_along, Agrees}
+use Rattle.pc_plan.specs.Traces.{IsAnswered, version_seen}
 use Rattle.pc_plan.proofs.Courses.{PastHolds}
 use Rattle.pc_plain.specs.PlainCells.{limit, AreBelowLimits}
 

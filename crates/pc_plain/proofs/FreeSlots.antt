@@ -41,7 +41,8 @@ takes_slot wanted fresh old_words new_words old_free new_free slot version e tak
     = record {
       taken = taken;
       cells =
-          sym (subst (λ (x : ℕ). kept_cells (with_fresh (fresh_at slot x (Some fresh)) c) ≡ cells_in new_words) v here);
+          sym (subst (λ (x : ℕ). kept_cells (with_fresh (fresh_at slot x (Some fresh)) c) ≡ cells_in new_words) v
+          here);
       long = long;
       small = small;
       parent = parent;

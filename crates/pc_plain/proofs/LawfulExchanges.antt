@@ -1,6 +1,7 @@
 -- What is known of a lawful exchange in plain cells that agree with what its plan was told: it writes words of
 -- nodes that fit, it marks a slot in use, and each slot is out of use after it where it should be.
-use Rattle.std.proofs.Common.{◌≡◌, ◌≢◌, ℕ, ◌+◌, ◌%◌, ◌==◌, ⊎_elim, if◌then◌else◌, Bool, true, false, List, [], ◌∷◌, Option, Some, None, IfSome, refl, sym, ap, ◌∙◌, subst, arith}
+use Rattle.std.proofs.Common.{◌≡◌, ◌≢◌, ℕ, ◌+◌, ◌%◌, ◌==◌, ⊎_elim, if◌then◌else◌, Bool, true, false, List, [], ◌∷◌}
+use Rattle.std.proofs.Common.{Option, Some, None, IfSome, refl, sym, ap, ◌∙◌, subst, arith}
 use Rattle.std.specs.Prelude.{IsSome}
 use Rattle.std.proofs.lemmas.Bool.{cases_Bool, cases_eq, eq-eqb, ne_eqb, eqb-true, cond-true, cond-false}
 use Rattle.pc_model.specs.declared.cell.Field.TheVariants.{Version}
@@ -14,7 +15,8 @@ use Rattle.pc_plan.specs.Planned.{Planned}
 use Rattle.pc_plan.specs.SlotsAfter.{is_node, taken_by, parity_after}
 use Rattle.pc_plan.specs.Traces.{Event, version_seen}
 use Rattle.pc_plan.specs.Runs.{number_at, fresh_at, Takes}
-use Rattle.pc_plan.specs.Lawful.{rise_of, IsToldFresh, IsToldWord, AreToldWords, AreFitting, Adds, MarksAlone, IsLawfulChange}
+use Rattle.pc_plan.specs.Lawful.{rise_of, IsToldFresh, IsToldWord, AreToldWords, AreFitting, Adds, MarksAlone}
+use Rattle.pc_plan.specs.Lawful.{IsLawfulChange}
 use Rattle.pc_plan.proofs.Courses.{PastHolds}
 use Rattle.pc_plan.proofs.WrittenWords.{AddsTo, added_or_not, words_at, words_else}
 use Rattle.pc_plain.specs.PlainWriting.{changed_cells, AreWordsOf, FreshFits, IsFitting}

@@ -1,6 +1,7 @@
 -- How the pairs of a tree are listed with a stack: what is listed, then the tree that the walk is at,
 -- then each waiting node with its right tree.
-use Rattle.std.proofs.Common.{◌≡◌, ◌≢◌, ℕ, suc, ◌+◌, ◌≤◌, List, [], ◌∷◌, ◌++◌, length, refl, sym, ap, ◌∙◌, subst, arith, length-append, append_assoc}
+use Rattle.std.proofs.Common.{◌≡◌, ◌≢◌, ℕ, suc, ◌+◌, ◌≤◌, List, [], ◌∷◌, ◌++◌, length, refl, sym, ap, ◌∙◌, subst}
+use Rattle.std.proofs.Common.{arith, length-append, append_assoc}
 use Rattle.std.proofs.lemmas.List.{append-nil}
 use Rattle.pc_model.specs.declared.cell.Field.TheVariants.{Left, Right}
 use Rattle.pc_model.specs.Map.{Pairs, IsRising}

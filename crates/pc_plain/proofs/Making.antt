@@ -1,6 +1,8 @@
 -- An exchange that is made in plain cells: the slot that it takes is one that it may take, its words
 -- can be written, and the cells that it leaves are sound again.
-use Rattle.std.proofs.Common.{◌≡◌, ℕ, ◌+◌, ◌*◌, ◌%◌, ◌<◌, ◌≤◌, ◌==◌, ◌&&◌, ⊎_elim, if◌then◌else◌, Bool, true, false, cond, List, [], ◌∷◌, ◌++◌, length, Option, Some, None, IfSome, IsSome, option_to_list, nat_le, refl, sym, ap, ◌∙◌, subst, arith, length-append}
+use Rattle.std.proofs.Common.{◌≡◌, ℕ, ◌+◌, ◌*◌, ◌%◌, ◌<◌, ◌≤◌, ◌==◌, ◌&&◌, ⊎_elim, if◌then◌else◌, Bool, true, false}
+use Rattle.std.proofs.Common.{cond, List, [], ◌∷◌, ◌++◌, length, Option, Some, None, IfSome, IsSome, option_to_list}
+use Rattle.std.proofs.Common.{nat_le, refl, sym, ap, ◌∙◌, subst, arith, length-append}
 use Rattle.std.proofs.lemmas.Bool.{cases_Bool, eqb-true, leb-true, le-leb, and_parts, and_from}
 use Rattle.pc_model.specs.declared.cell.Field.TheVariants.{Version}
 use Rattle.pc_model.specs.Cells.{Cells, IsEven, IsOdd, IsNode, IsSlot}
@@ -12,9 +14,12 @@ use Rattle.pc_plan.specs.declared.change.Fresh.{Fresh}
 use Rattle.pc_plan.specs.Planned.{Planned}
 use Rattle.pc_plan.specs.SlotsAfter.{is_node, taken_by, parity_after}
 use Rattle.pc_plan.specs.Runs.{Takes, fresh_at, fresh_fields}
-use Rattle.pc_plain.specs.PlainCells.{PlainWords, cells_in, cells_of, AreBelowLimits, is_free, IsSoundPlain, kept, kept_cells}
-use Rattle.pc_plain.specs.PlainWriting.{with_adds, AddsReach, TakesSlot, changed_cells, AreWordsOf, FreshFits, IsFitting, CanMake, IsWritten}
-use Rattle.pc_plain.proofs.KeptCells.{kept_same, kept_node, kept_adds, kept_parity, below_node, below_adds, fresh_below}
+use Rattle.pc_plain.specs.PlainCells.{PlainWords, cells_in, cells_of, AreBelowLimits, is_free, IsSoundPlain, kept}
+use Rattle.pc_plain.specs.PlainCells.{kept_cells}
+use Rattle.pc_plain.specs.PlainWriting.{with_adds, AddsReach, TakesSlot, changed_cells, AreWordsOf, FreshFits}
+use Rattle.pc_plain.specs.PlainWriting.{IsFitting, CanMake, IsWritten}
+use Rattle.pc_plain.proofs.KeptCells.{kept_same, kept_node, kept_adds, kept_parity, below_node, below_adds}
+use Rattle.pc_plain.proofs.KeptCells.{fresh_below}
 use Rattle.pc_plain.proofs.FreeSlots.{last_counted}
 
 one_if_true : (b : Bool) → 0 < one_if b → b ≡ true

@@ -40,7 +40,8 @@ heights_of c (p ∷ ps) = suc (max (left_height c p (heights_of c ps)) (right_he
 
 abbrev pub lines_of : Cells → List Place → List ShapeLine
 lines_of c [] = []
-lines_of c (p ∷ ps) = line_at c p (left_height c p (heights_of c ps)) (right_height c p (heights_of c ps)) ∷ lines_of c ps
+lines_of c (p ∷ ps) =
+    line_at c p (left_height c p (heights_of c ps)) (right_height c p (heights_of c ps)) ∷ lines_of c ps
 
 -- the height of a tree, if it has a node, in front of others
 abbrev raised : Tree → List ℕ → List ℕ
@@ -155,7 +156,8 @@ heights_low c (p ∷ ps) =
     let low : AreLow (length ps) (heights_of c ps) = heights_low c ps in
     let past : AreLow (length ps) (past_side (c p.node Left) (heights_of c ps))
     = low_past (length ps) (c p.node Left) (heights_of c ps) low in
-    let left : left_height c p (heights_of c ps) ≤ length ps = low_front (length ps) (c p.node Left) (heights_of c ps) low in
+    let left : left_height c p (heights_of c ps) ≤ length ps =
+    low_front (length ps) (c p.node Left) (heights_of c ps) low in
     let right : right_height c p (heights_of c ps) ≤ length ps
     = low_front (length ps) (c p.node Right) (past_side (c p.node Left) (heights_of c ps)) past in (
       omega (arith, left, right),

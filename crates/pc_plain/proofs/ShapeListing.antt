@@ -216,7 +216,8 @@ pub places_few : (kind : Kind) (slots : ℕ) (c : Cells) (all : Pairs) (search :
     → length (places_of 1 search.tree) ≤ slots
 places_few kind slots c all search =
     let rising : IsRising (pairs_of c search.tree) = subst IsRising (sym search.pairs) search.rising in
-    let few : size_of search.tree ≤ slots = size-le-slots kind slots c search.tree 1 (c 1 Left) search.spelled rising in
+    let few : size_of search.tree ≤ slots =
+    size-le-slots kind slots c search.tree 1 (c 1 Left) search.spelled rising in
     let long : length (places_of 1 search.tree) ≡ size_of search.tree = length-places_of 1 search.tree in
     omega (arith, few, long)
 

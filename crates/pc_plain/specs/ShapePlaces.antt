@@ -8,7 +8,8 @@ use Rattle.pc_plain.specs.declared.tree_shape.Place.{Place}
 -- the nodes of a tree whose root lies at a depth, each before those below it, the left ones first
 abbrev pub places_of : ℕ → Tree → List Place
 places_of depth Empty = []
-places_of depth (Fork n l r) = record { node = n; depth = depth } ∷ (places_of (depth + 1) l ++ places_of (depth + 1) r)
+places_of depth (Fork n l r) =
+    record { node = n; depth = depth } ∷ (places_of (depth + 1) l ++ places_of (depth + 1) r)
 
 -- these are the places of the search tree
 pub record ArePlaces (slots : ℕ) (c : Cells) (places : List Place) : Type 0 where

@@ -3,9 +3,12 @@ pub mod Courses
 pub mod FittingPlans
 pub mod LawfulNodes
 pub mod Learning
+pub mod NodeStays
 pub mod NodeWords
 pub mod Quiets
 pub mod Unseen
 pub mod WalkCourses
+pub mod WalkKeys
 pub mod WalkLawful
+pub mod WalkNodes
 pub mod WrittenWords

@@ -1,7 +1,8 @@
 //! What a run prints: its history, the pairs that are left, and the end.
 ghost use Rattle.std.specs.Prelude.{◌≡◌, [], ◌++◌, false};
 ghost use Rattle.pc_edge.specs.Sending.{Writes};
-ghost use Rattle.pc_text.specs.Printed.{entry_lines, pair_lines, node_lines, shape_lines, tree_height, listed, printed_run};
+ghost use Rattle.pc_text.specs.Printed.{entry_lines, pair_lines, node_lines, shape_lines, tree_height, listed};
+ghost use Rattle.pc_text.specs.Printed.{printed_run};
 
 use crate::lines::{Line, print_line};
 use crate::shape::ShapeLine;
@@ -26,7 +27,8 @@ pub fn print_run<K: Sink>(
 ) -> Result<(), Failed>
     // A summary has no text yet.
     requires no_summary { extras.summary ≡ false }
-    ensures { Writes K.held K.faults sink.old sink.new (printed_run history.now pairs.now (listed extras.entry.shape)) [] result }
+    ensures { Writes K.held K.faults sink.old sink.new
+        (printed_run history.now pairs.now (listed extras.entry.shape)) [] result }
 {
     let mut chunk = Chunk::new();
     print_entries(sink, &mut chunk, history)?;
@@ -63,7 +65,8 @@ fn print_shape<K: Sink>(
     chunk: &mut Chunk,
     shape: Option<&[ShapeLine]>,
 ) -> Result<(), Failed>
-    ensures { Writes K.held K.faults sink.old sink.new (chunk.old ++ shape_lines (listed shape.entry)) chunk.new result }
+    ensures { Writes K.held K.faults sink.old sink.new
+        (chunk.old ++ shape_lines (listed shape.entry)) chunk.new result }
 {
     match shape {
         Some(nodes) => print_tree(sink, chunk, nodes),

@@ -1,4 +1,5 @@
 -- Proved with the laws of each plan.
+use Rattle.pc_bst.specs.declared.kind.TreeKind.TheVariants.{Plain}
 use Rattle.pc_bst.specs.GetLaws.{get_is_quiet}
 use Rattle.pc_bst.specs.PutLaws.{put_ends}
 use Rattle.pc_bst.specs.RemoveLaws.{remove_ends_in_change, remove_ends_in_answer}
@@ -7,7 +8,7 @@ use Rattle.pc_bst.proofs.laws.plans_end_as_their_calls_do.Goals as goal
 pub returns : goal.returns
 returns c = record {
   get = get_is_quiet;
-  put = put_ends;
+  put = put_ends Plain;
   remove = remove_ends_in_change;
   missing = remove_ends_in_answer;
 }

@@ -4,9 +4,11 @@ use Rattle.std.proofs.lemmas.List.{nil_from_length}
 use Rattle.pc_model.specs.Cells.{IsSlot}
 use Rattle.pc_model.specs.Trees.{pair_of}
 use Rattle.pc_plain.specs.PlainCells.{cells_of}
-use Rattle.pc_plain.proofs.Listing.{IsListing, listing_slot, listing_left, listing_last, listing_right, listing_few, listing_done}
+use Rattle.pc_plain.proofs.Listing.{IsListing, listing_slot, listing_left, listing_last, listing_right, listing_few}
+use Rattle.pc_plain.proofs.Listing.{listing_done}
 use Rattle.pc_plain.proofs.tree_pairs.pairs.Goals as goal
-use Rattle.pc_plain.proofs.tree_pairs.pairs.Goals.{Then-link-ne0, After-word-link-then-link-ne0, In-Some, After-word-link-else-link-ne0}
+use Rattle.pc_plain.proofs.tree_pairs.pairs.Goals.{Then-link-ne0, After-word-link-then-link-ne0, In-Some}
+use Rattle.pc_plain.proofs.tree_pairs.pairs.Goals.{After-word-link-else-link-ne0}
 
 link_slot : (c : Then-link-ne0) → IsSlot c.args.cells.now.slots c.walk.link
 link_slot c = listing_slot c.args.cells.now.slots

@@ -43,7 +43,8 @@ overflow_add-height c =
     ∙ (λ i. side_height (c.word-in-Some.ensures.value i) (past i)) in
     let low : (c.take_side-left.result < c.args.cells.now.slots) × (c.take_side-right.result < c.args.cells.now.slots)
     = building_low c.args.cells.now.slots cells c.pop.new.self.items c.loop-place.heights.items
-    c.loop-place.lines.items c.in-Some.place c.take_side-left.result c.take_side-right.result (at_last here) left right in
+    c.loop-place.lines.items c.in-Some.place c.take_side-left.result c.take_side-right.result
+    (at_last here) left right in
     let few : c.args.cells.now.slots ≤ 61000 = c.word.ensures.few in
     let higher : c.max-height.result ≡ max c.take_side-left.result c.take_side-right.result = c.max-height.ensures in
     omega (arith, few, low.0, low.1, higher)
@@ -61,7 +62,8 @@ loop-place-preserved c =
     let right : c.take_side-right.result ≡ side_height (cells node Right) (past_side (cells node Left) hs)
     = c.take_side-right.ensures.height
     ∙ (λ i. side_height (c.word-in-Some.ensures.value i) (past i)) in
-    let rest : reverse c.take_side-right.new.heights.items ≡ past_side (cells node Right) (past_side (cells node Left) hs)
+    let rest : reverse c.take_side-right.new.heights.items
+    ≡ past_side (cells node Right) (past_side (cells node Left) hs)
     = c.take_side-right.ensures.rest ∙ (λ i. past_side (c.word-in-Some.ensures.value i) (past i)) in
     let height : c.max-height.result + 1 ≡ suc (max c.take_side-left.result c.take_side-right.result)
     = (let e : c.max-height.result ≡ max c.take_side-left.result c.take_side-right.result = c.max-height.ensures in
@@ -95,4 +97,5 @@ returns c =
     let end : IsBuilding c.args.cells.now.slots (cells_of c.args.cells.now) [] c.loop-place.heights.items
     c.loop-place.lines.items
     = rw (← none) c.loop-place.invariant in
-    rw (c.reverse.ensures.items) (building_done c.args.cells.now c.loop-place.heights.items c.loop-place.lines.items end)
+    rw (c.reverse.ensures.items)
+    (building_done c.args.cells.now c.loop-place.heights.items c.loop-place.lines.items end)

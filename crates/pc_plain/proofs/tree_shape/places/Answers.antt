@@ -104,7 +104,8 @@ loop-place-preserved c =
     let pushed : c.push.new.self.items ≡ c.loop-place.listed.items ++ c.in-Some.place ∷ []
     = grind (arith, common_steps) in
     let waits : c.hang-in-Some-2.new.waiting.items ≡ (c.pop.new.self.items
-    ++ places_at (cells_of c.args.cells.now node Right) deeper) ++ places_at (cells_of c.args.cells.now node Left) deeper
+    ++ places_at (cells_of c.args.cells.now node Right) deeper)
+    ++ places_at (cells_of c.args.cells.now node Left) deeper
     = c.in_ok-hang-3.ensures
     ∙ ap (λ x. x ++ places_at c.word-in-Some-2.result deeper) (c.in_ok-hang-2.ensures
     ∙ ap (λ (x : ℕ). c.pop.new.self.items ++ places_at x deeper) c.word-in-Some.ensures.value)

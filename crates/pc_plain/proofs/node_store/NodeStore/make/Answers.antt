@@ -1,4 +1,5 @@
-use Rattle.std.proofs.Common.{◌≡◌, ◌<◌, ◌++◌, ap, sym, ◌∙◌, subst, length, IsSome, option_to_list, vec_len, vec_capacity}
+use Rattle.std.proofs.Common.{◌≡◌, ◌<◌, ◌++◌, ap, sym, ◌∙◌, subst, length, IsSome, option_to_list, vec_len}
+use Rattle.std.proofs.Common.{vec_capacity}
 use Rattle.pc_plan.specs.Planned.{Planned}
 use Rattle.pc_plain.specs.PlainCells.{PlainWords, cells_in}
 use Rattle.pc_plain.specs.PlainWriting.{with_adds, TakesSlot, CanMake, IsWritten}

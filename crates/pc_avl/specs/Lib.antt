@@ -1,0 +1,5 @@
+pub mod RemoveCourses
+pub mod RemoveEnds
+pub mod RemoveLawful
+pub mod RemoveLaws
+pub mod Removes

@@ -1,0 +1,17 @@
+//! The plans of the relaxed AVL tree: get, put and remove leave nodes out of balance, and charge their
+//! keys. What has no balance in it, the get and the put, is that of `pc_bst`.
+#![tactic(auto)]
+
+mod charges;
+mod get;
+mod laws;
+mod put;
+mod remove;
+#[cfg(test)]
+mod tests;
+
+pub use charges::debts;
+pub use get::AvlGet;
+pub use laws::{plans_end_as_their_calls_do, plans_stand_for_their_calls};
+pub use put::AvlPut;
+pub use remove::AvlRemove;
