@@ -14,7 +14,7 @@ use Rattle.pc_model.specs.Calls.{is_put, puts_in}
 use Rattle.pc_plain.specs.PlainCells.{PlainWords, cells_of}
 use Rattle.pc_model.specs.Trees.{plain, IsSearchTree}
 use Rattle.pc_model.specs.TreeForms.{tree_form}
-use Rattle.pathmap.specs.Running.{IsOneHistory, HasRoomFor, AnswersAs, HasRun}
+use Rattle.pathmap.specs.OneClient.{IsOneHistory, HasRoomFor, AnswersAs, HasRun}
 
 -- the entry of client 1 at a place, from 0
 abbrev pub entry_at : ℕ → Call → Reply → Entry

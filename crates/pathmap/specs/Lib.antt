@@ -1,3 +1,3 @@
+pub mod OneClient
 pub mod Reading
-pub mod Running
 pub mod Serving

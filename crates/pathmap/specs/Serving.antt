@@ -17,7 +17,7 @@ use Rattle.pc_text.specs.FaultLine.{fault_line}
 use Rattle.pc_text.specs.Printed.{printed_run}
 use Rattle.pc_text.specs.Script.{script_of}
 use Rattle.pc_text.specs.ScriptValue.{ScriptValue}
-use Rattle.pathmap.specs.Running.{IsOneHistory}
+use Rattle.pathmap.specs.OneClient.{IsOneHistory}
 
 -- the bytes are no longer than an input may be, and spell this script
 abbrev pub SpellsScript : List ℕ → ScriptValue → Type 0

@@ -6,8 +6,8 @@ ghost use Rattle.std.specs.Prelude.{◌≡◌, ◌≢◌};
 ghost use Rattle.pathmap.specs.Serving.{WritesFault};
 ghost use Rattle.pc_text.specs.Fault.{status_of};
 
+mod one_client;
 mod reading;
-mod running;
 mod serve;
 
 use pc_edge::{OpenGate, Sink, StdSink, StdSource};

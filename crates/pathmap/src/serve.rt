@@ -1,7 +1,7 @@
 //! The top call: it reads a script, runs it, and prints the run or the line of a fault.
 ghost use Rattle.std.specs.Prelude.{◌≡◌, ◌≢◌, ◌+◌, ◌≤◌, length, IfSome, IfOk, IfErr};
 ghost use Rattle.pathmap.specs.Reading.{TakesAtMost};
-ghost use Rattle.pathmap.specs.Running.{IsOneHistory};
+ghost use Rattle.pathmap.specs.OneClient.{IsOneHistory};
 ghost use Rattle.pathmap.specs.Serving.{PrintsOneHistory, PrintsFront, HasRunAll, RunsBytes};
 ghost use Rattle.pathmap.specs.Serving.{EndsInFault, IsCauseOf, IsBytesFault, WritesFault};
 ghost use Rattle.pathmap.specs.Serving.{IsTooLong, IsRefused, EndsUnlessStopped};
@@ -9,8 +9,8 @@ ghost use Rattle.pc_edge.specs.Faults.{HasRisen};
 ghost use Rattle.pc_text.specs.Fault.{status_of};
 ghost use Rattle.pc_text.specs.ScriptFacts.{AreFew, AreInRange};
 
+use crate::one_client::{Run, run_alone};
 use crate::reading::read_all;
-use crate::running::{Run, run_alone};
 use pc_edge::{Failed, Gate, Sink, Source};
 use pc_model::{Call, Memory};
 use pc_text::{Extras, Fault, MOST_BYTES, Script, print_fault, print_run, read_script};

@@ -8,9 +8,9 @@ use Rattle.pc_model.specs.declared.call.Call.TheVariants.{Put}
 use Rattle.pc_model.specs.declared.call.Entry.{Entry}
 use Rattle.pc_model.specs.Calls.{puts_in}
 use Rattle.pc_model.proofs.Sizes.{puts_in-take}
-use Rattle.pathmap.specs.Running.{HasRun}
+use Rattle.pathmap.specs.OneClient.{HasRun}
 use Rattle.pathmap.proofs.Steps.{entry_at, as_long, room_left, one_more}
-use Rattle.pathmap.proofs.running.run_calls.Goals as goal
+use Rattle.pathmap.proofs.one_client.run_calls.Goals as goal
 
 pub loop-i-preserved : goal.loop-i-preserved
 loop-i-preserved c =

@@ -2,7 +2,7 @@
 use Rattle.pc_model.specs.Replay.{fold_of}
 use Rattle.pc_model.specs.Trees.{plain}
 use Rattle.pathmap.proofs.Steps.{whole_run}
-use Rattle.pathmap.proofs.running.run_alone.Goals as goal
+use Rattle.pathmap.proofs.one_client.run_alone.Goals as goal
 
 pub returns : goal.returns
 returns c =

@@ -8,7 +8,7 @@ ghost use Rattle.pc_model.specs.Trees.{plain};
 ghost use Rattle.pc_model.specs.TreeForms.{tree_form};
 ghost use Rattle.pc_plan.specs.Quiet.{AsksForNoExchange};
 ghost use Rattle.pc_plain.specs.PlainRuns.{HoldsPairs, RunsRight};
-ghost use Rattle.pathmap.specs.Running.{IsOneHistory, HasRoomFor, AnswersAs, HasRun};
+ghost use Rattle.pathmap.specs.OneClient.{IsOneHistory, HasRoomFor, AnswersAs, HasRun};
 
 use pc_bst::{BstGet, BstPut, BstRemove};
 use pc_model::{Call, Entry, Memory, Reply};
