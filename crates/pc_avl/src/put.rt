@@ -2,7 +2,7 @@
 ghost use Rattle.std.specs.Prelude.{◌≡◌};
 ghost use Rattle.pc_plan.specs.Asking.{asked};
 
-use pc_bst::{TreeKind, TreePut};
+use pc_bst::{NodeKind, TreePut};
 use pc_model::{Call, Reply, Settle};
 use pc_plan::{Change, Plan, Told, Turn};
 use std::marker::Model;
@@ -27,7 +27,7 @@ impl Plan for AvlPut {
     ghost use Rattle.pc_model.specs.Trees.{balanced};
     ghost use Rattle.pc_model.specs.TreeForms.{tree_form};
     ghost use Rattle.pc_plan.specs.Terms.{map_terms};
-    ghost use Rattle.pc_bst.specs.declared.kind.TreeKind.TheVariants.{Balanced};
+    ghost use Rattle.pc_bst.specs.declared.kind.NodeKind.TheVariants.{Balanced};
     ghost use Rattle.pc_bst.specs.Puts.{put_of, put_moves};
     ghost use Rattle.pc_bst.specs.PutLaws.{put_laws};
 
@@ -47,7 +47,7 @@ impl Plan for AvlPut {
 
     fn begin(call: (u64, u64)) -> AvlPut {
         AvlPut {
-            put: TreePut::new(TreeKind::Balanced, call),
+            put: TreePut::new(NodeKind::Balanced, call),
         }
     }
 

@@ -21,8 +21,8 @@ use Rattle.pc_plan.proofs.Quiets.{asks_by_steps}
 use Rattle.pc_bst.specs.declared.tree_put.PutPhase.{PutPhase}
 use Rattle.pc_bst.specs.declared.tree_put.PutPhase.TheVariants.{Walking, Reading, Ended}
 use Rattle.pc_bst.specs.declared.tree_put.TreePut.{TreePut}
-use Rattle.pc_bst.specs.declared.kind.TreeKind.{TreeKind}
-use Rattle.pc_bst.specs.declared.kind.TreeKind.TheVariants.{Plain}
+use Rattle.pc_bst.specs.declared.kind.NodeKind.{NodeKind}
+use Rattle.pc_bst.specs.declared.kind.NodeKind.TheVariants.{Plain}
 use Rattle.pc_bst.specs.Kinds.{leaf_charges}
 use Rattle.pc_bst.specs.declared.remove.RemovePhase.{RemovePhase}
 use Rattle.pc_bst.specs.declared.remove.RemovePhase.TheVariants.{Walking as Removing, ReadingLeft, ReadingRight}
@@ -43,7 +43,7 @@ put_walked_free p w (Read n f) plain_one = (plain_one, tt)
 put_walked_free p w (Here x) plain_one =
     cond_both (x == w.key) (put_reads p w) (put_passes p w x) IsFreePut (λ _. (plain_one, tt)) (λ _. (plain_one, tt))
 put_walked_free p w (Missing s link) plain_one =
-    (plain_one, ap (λ (k : TreeKind). leaf_charges k w.node p.above_key) plain_one)
+    (plain_one, ap (λ (k : NodeKind). leaf_charges k w.node p.above_key) plain_one)
 put_walked_free p w Astray plain_one = (plain_one, tt)
 
 put_told_free : (p : TreePut) (phase : PutPhase) (t : Told) → p.kind ≡ Plain → IsFreePut (put_told p phase t)

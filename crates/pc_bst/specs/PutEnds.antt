@@ -36,8 +36,8 @@ use Rattle.pc_plan.proofs.NodeWords.{AreFields, not_among, has_here}
 use Rattle.pc_plan.proofs.WrittenWords.{applied_else_word}
 use Rattle.pc_plan.proofs.LawfulNodes.{applied_node, applied_fresh, looked_up-here, parity_by_nodes}
 use Rattle.pc_plan.proofs.WalkKeys.{IsKeyOf}
-use Rattle.pc_bst.specs.declared.kind.TreeKind.{TreeKind}
-use Rattle.pc_bst.specs.declared.kind.TreeKind.TheVariants.{Plain, Balanced}
+use Rattle.pc_bst.specs.declared.kind.NodeKind.{NodeKind}
+use Rattle.pc_bst.specs.declared.kind.NodeKind.TheVariants.{Plain, Balanced}
 use Rattle.pc_bst.specs.declared.tree_put.PutPhase.TheVariants.{Walking}
 use Rattle.pc_bst.specs.Kinds.{kind_of, leaf_parent, leaf_height, key_unless_sentinel, leaf_charges}
 use Rattle.pc_bst.specs.Puts.{value_changed, leaf_added, put_at}
@@ -56,7 +56,7 @@ key_is_charged c n x is ne =
     (subst (λ (y : ℕ). IsTrue (has (c n KeyField) (y ∷ []))) (sym e) (has_here (c n KeyField) []))
 
 -- another value brings no debts
-value_charges : (kind : TreeKind) (slots : ℕ) (c : Cells) (ps : Pairs)
+value_charges : (kind : NodeKind) (slots : ℕ) (c : Cells) (ps : Pairs)
     → IsSearchTree (kind_of kind) slots c ps → (c' : Cells) (n v : ℕ) → IsRevalued c c' n v → (k : ℕ)
     → in_debt_of (kind_of kind) slots c' k → in_debt_of (kind_of kind) slots c k ⊎ IsTrue (has k [])
 value_charges Plain slots c ps tree c' n v changed k debt = absurd debt
@@ -64,14 +64,14 @@ value_charges Balanced slots c ps tree c' n v changed k debt = value_brings_noth
     debt
 
 -- a leaf is of its tree's kind
-leaf_is_of_kind : (kind : TreeKind) (c : Cells) (above leaf : ℕ) → c leaf Parent ≡ leaf_parent kind above
+leaf_is_of_kind : (kind : NodeKind) (c : Cells) (above leaf : ℕ) → c leaf Parent ≡ leaf_parent kind above
     → c leaf Height ≡ leaf_height kind → IsOfKind (kind_of kind) c above leaf
 leaf_is_of_kind Plain c above leaf parent height = (parent, height)
 leaf_is_of_kind Balanced c above leaf parent height = (parent, omega (arith, height))
 
 module _ (slots : ℕ) (c : Cells) (ps : Pairs) (k value q : ℕ) (s : Side) where
   -- and brings only debts that are charged
-  leaf_charged : (kind : TreeKind) (tree : IsSearchTree (kind_of kind) slots c ps) (x slot : ℕ) (c' : Cells)
+  leaf_charged : (kind : NodeKind) (tree : IsSearchTree (kind_of kind) slots c ps) (x slot : ℕ) (c' : Cells)
       → Hole (kind_of kind) slots c ps tree.tree k q (link_of s) Empty → IsOdd (c slot VersionField)
       → IsHung (kind_of kind) c c' q (link_of s) slot k value → IsKeyOf c q x → c' slot Height ≡ leaf_height kind
       → (j : ℕ) → in_debt_of (kind_of kind) slots c' j
@@ -81,7 +81,7 @@ module _ (slots : ℕ) (c : Cells) (ps : Pairs) (k value q : ℕ) (s : Side) whe
       leaf_brings_only slots c ps tree k value q (link_of s) slot c' h odd hung (key_unless_sentinel q x) height
       (key_is_charged c q x is) j debt
 
-module _ (kind : TreeKind) (slots : ℕ) (c : Cells) (ps : Pairs) (k value : ℕ)
+module _ (kind : NodeKind) (slots : ℕ) (c : Cells) (ps : Pairs) (k value : ℕ)
     (tree : IsSearchTree (kind_of kind) slots c ps)
     (small_key : k ≤ 999999999999999999) (small_value : value ≤ 999999999999999999)
     (q : ℕ) (s : Side) (past : List Event) (slot : ℕ) where

@@ -36,8 +36,8 @@ use Rattle.pc_plan.proofs.LawfulNodes.{lawful_by_nodes}
 use Rattle.pc_plan.proofs.WalkCourses.{left_node, walk_at}
 use Rattle.pc_plan.proofs.WalkKeys.{walk_to_key_below}
 use Rattle.pc_plan.proofs.WalkLawful.{HasCome, StepStands, Waits, walk_stands, waits_lawful, goes_on, walk_keeps_key}
-use Rattle.pc_bst.specs.declared.kind.TreeKind.{TreeKind}
-use Rattle.pc_bst.specs.declared.kind.TreeKind.TheVariants.{Plain, Balanced}
+use Rattle.pc_bst.specs.declared.kind.NodeKind.{NodeKind}
+use Rattle.pc_bst.specs.declared.kind.NodeKind.TheVariants.{Plain, Balanced}
 use Rattle.pc_bst.specs.declared.tree_put.PutPhase.{PutPhase}
 use Rattle.pc_bst.specs.declared.tree_put.PutPhase.TheVariants.{Walking, Reading, Ended}
 use Rattle.pc_bst.specs.declared.tree_put.TreePut.{TreePut}
@@ -52,11 +52,11 @@ use Rattle.pc_bst.specs.PutEnds.{link_field, value_end, leaf_end}
 abbrev put_terms : ℕ × ℕ → Terms
 put_terms p = map_terms (Put p.0 p.1)
 
-abbrev pub PutsRight : TreeKind → ℕ → Cells → Pairs → ℕ × ℕ → List Event → Ask → Type 0
+abbrev pub PutsRight : NodeKind → ℕ → Cells → Pairs → ℕ × ℕ → List Event → Ask → Type 0
 PutsRight kind slots c ps call past a = EndsRight (tree_form (kind_of kind)) slots c ps (put_terms call) past a
     × IsChange a
 
-module _ (kind : TreeKind) (slots : ℕ) (c : Cells) (ps : Pairs) (call : ℕ × ℕ)
+module _ (kind : NodeKind) (slots : ℕ) (c : Cells) (ps : Pairs) (call : ℕ × ℕ)
     (ready : IsReady (tree_form (kind_of kind)) slots c ps) (pair : IsPair call) where
   tree : IsSearchTree (kind_of kind) slots c ps
   tree = ready.is_sound
@@ -113,14 +113,14 @@ module _ (kind : TreeKind) (slots : ℕ) (c : Cells) (ps : Pairs) (call : ℕ ×
         tt,
       ))
 
-put_runs : (kind : TreeKind) → Runs (put_of kind) put_moves IsPair put_terms (tree_form (kind_of kind))
+put_runs : (kind : NodeKind) → Runs (put_of kind) put_moves IsPair put_terms (tree_form (kind_of kind))
 put_runs kind = runs_by_course (put_of kind) put_moves IsPair put_terms (tree_form (kind_of kind)) (PutsRight kind)
     (λ slots c ps call past a h. h.0)
     (λ slots. 6 * slots + (1 + 3)) (λ slots. omega arith)
     (λ slots c ps call ready pair. put_course kind slots c ps call ready pair)
 
 -- on sound cells a put never answers: it ends in an exchange
-pub put_ends : (kind : TreeKind)
+pub put_ends : (kind : NodeKind)
     → EndsInChange (put_of kind) put_moves IsPair (tree_form (kind_of kind)) (λ call ps. Unit {0})
 put_ends kind = changes_by_course (put_of kind) put_moves IsPair put_terms (tree_form (kind_of kind)) (PutsRight kind)
     (λ slots c ps call past a h. h.0) (λ slots. 6 * slots + (1 + 3)) (λ slots. omega arith)
@@ -170,17 +170,17 @@ value_lawful past w old value come fits = lawful_by_nodes (found w.node ValueFie
       few_charges = omega arith;
     })
 
-few_leaf_charges : (kind : TreeKind) (n x : ℕ) → length (leaf_charges kind n x) ≤ 4
+few_leaf_charges : (kind : NodeKind) (n x : ℕ) → length (leaf_charges kind n x) ≤ 4
 few_leaf_charges Plain n x = omega arith
 few_leaf_charges Balanced n x = cond_both (n == 1) [] (x ∷ []) (λ (keys : List ℕ). length keys ≤ 4) (λ _. omega arith)
     (λ _. omega arith)
 
-small_height : (kind : TreeKind) → leaf_height kind < 2 ^ 62
+small_height : (kind : NodeKind) → leaf_height kind < 2 ^ 62
 small_height Plain = omega arith
 small_height Balanced = omega arith
 
 -- the leaf names no node above it, or one that was visited
-parent_told : (kind : TreeKind) (past : List Event) (n v : ℕ) → version_seen n past ≡ Some v
+parent_told : (kind : NodeKind) (past : List Event) (n v : ℕ) → version_seen n past ≡ Some v
     → (leaf_parent kind n ≡ 0) ⊎ IsSome (version_seen (leaf_parent kind n) past)
 parent_told Plain past n v seen = inl refl
 parent_told Balanced past n v seen = inr (is_some-seen n v past seen)
@@ -254,7 +254,7 @@ put_stands past p a Reading h =
     subst (IsLawfulAsk past) (sym h.1) lawful
 put_stands past p a Ended h = h
 
-put_lawful : (kind : TreeKind) → IsLawful (put_of kind) put_moves IsPair
+put_lawful : (kind : NodeKind) → IsLawful (put_of kind) put_moves IsPair
 put_lawful kind = record {
   first = λ call pair. refl;
   asks = λ call ts pair words.
@@ -265,7 +265,7 @@ put_lawful kind = record {
       ((omega (arith, pair.0), omega (arith, pair.1)), (refl, refl, inl refl)));
 }
 
-pub put_laws : (kind : TreeKind)
+pub put_laws : (kind : NodeKind)
     → PlanLaws (put_of kind) put_moves IsPair (λ p. map_terms (Put p.0 p.1)) (tree_form (kind_of kind))
 put_laws kind = record {
   runs = put_runs kind;

@@ -14,7 +14,7 @@ use Rattle.pc_plan.specs.declared.walk.Step.{Step}
 use Rattle.pc_plan.specs.declared.walk.Step.TheVariants.{Visit, Read, Here, Missing, Astray}
 use Rattle.pc_plan.specs.NodeChanges.{ByNodes, planned_by}
 use Rattle.pc_plan.specs.Walks.{walk_of, on_way, way, walk_step}
-use Rattle.pc_bst.specs.declared.kind.TreeKind.{TreeKind}
+use Rattle.pc_bst.specs.declared.kind.NodeKind.{NodeKind}
 use Rattle.pc_bst.specs.declared.tree_put.PutPhase.{PutPhase}
 use Rattle.pc_bst.specs.declared.tree_put.PutPhase.TheVariants.{Walking, Reading, Ended}
 use Rattle.pc_bst.specs.declared.tree_put.TreePut.{TreePut}
@@ -62,7 +62,7 @@ leaf_added p side link = record {
   reply = New;
 }
 
-abbrev pub put_at : TreeKind → Walk → ℕ → ℕ → PutPhase → TreePut
+abbrev pub put_at : NodeKind → Walk → ℕ → ℕ → PutPhase → TreePut
 put_at kind w value above_key phase = record {
   kind = kind;
   walk = w;
@@ -71,7 +71,7 @@ put_at kind w value above_key phase = record {
   phase = phase;
 }
 
-abbrev pub put_of : TreeKind → ℕ × ℕ → TreePut
+abbrev pub put_of : NodeKind → ℕ × ℕ → TreePut
 put_of kind p = put_at kind (walk_of p.0) p.1 0 Walking
 
 abbrev pub with_walk : TreePut → Walk → TreePut

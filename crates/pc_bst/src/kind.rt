@@ -1,12 +1,12 @@
-//! The kinds of search trees, and whose key a change charges.
+//! What the nodes of a search tree carry, by its kind, and whose key a change charges.
 ghost use Rattle.std.specs.Prelude.{◌≡◌, ◌<◌, length};
 ghost use Rattle.pc_bst.specs.Kinds.{with_key_charged};
 
 use pc_plan::{Change, SENTINEL};
 
-/// The kind of a search tree.
+/// What the nodes of a search tree carry.
 #[derive(Clone, Copy, Debug, PartialEq, Eq)]
-pub enum TreeKind {
+pub enum NodeKind {
     /// A node has no parent and no height.
     Plain,
     /// A node has its parent and a stored height, and a change charges keys.

@@ -13,7 +13,7 @@ mod tests;
 mod tree_put;
 
 pub use get::BstGet;
-pub use kind::{TreeKind, charge_key_of};
+pub use kind::{NodeKind, charge_key_of};
 pub use laws::{plans_charge_nothing, plans_end_as_their_calls_do, plans_stand_for_their_calls};
 pub use put::BstPut;
 pub use remove::BstRemove;

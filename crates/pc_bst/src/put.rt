@@ -2,7 +2,7 @@
 ghost use Rattle.std.specs.Prelude.{◌≡◌};
 ghost use Rattle.pc_plan.specs.Asking.{asked};
 
-use crate::kind::TreeKind;
+use crate::kind::NodeKind;
 use crate::tree_put::TreePut;
 use pc_model::{Call, Reply, Settle};
 use pc_plan::{Change, Plan, Told, Turn};
@@ -28,7 +28,7 @@ impl Plan for BstPut {
     ghost use Rattle.pc_model.specs.Trees.{plain};
     ghost use Rattle.pc_model.specs.TreeForms.{tree_form};
     ghost use Rattle.pc_plan.specs.Terms.{map_terms};
-    ghost use Rattle.pc_bst.specs.declared.kind.TreeKind.TheVariants.{Plain};
+    ghost use Rattle.pc_bst.specs.declared.kind.NodeKind.TheVariants.{Plain};
     ghost use Rattle.pc_bst.specs.Puts.{put_of, put_moves};
     ghost use Rattle.pc_bst.specs.PutLaws.{put_laws};
 
@@ -48,7 +48,7 @@ impl Plan for BstPut {
 
     fn begin(call: (u64, u64)) -> BstPut {
         BstPut {
-            put: TreePut::new(TreeKind::Plain, call),
+            put: TreePut::new(NodeKind::Plain, call),
         }
     }
 

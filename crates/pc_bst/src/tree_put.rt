@@ -5,7 +5,7 @@ ghost use Rattle.pc_plan.specs.Asking.{asked};
 ghost use Rattle.pc_plan.specs.NodeChanges.{planned_by};
 ghost use Rattle.pc_bst.specs.Puts.{put_of, put_moves, put_walks, put_gives_up, value_changed, leaf_added};
 
-use crate::kind::{TreeKind, charge_key_of};
+use crate::kind::{NodeKind, charge_key_of};
 use pc_model::{Field, Reply, Side};
 use pc_plan::{Change, Fresh, Step, To, Told, Turn, Walk};
 
@@ -26,7 +26,7 @@ pub enum PutPhase {
 #[derive(Clone, Copy, Debug)]
 pub struct TreePut {
     phase: PutPhase,
-    kind: TreeKind,
+    kind: NodeKind,
     walk: Walk,
     value: u64,
     above_key: u64,
@@ -37,7 +37,7 @@ impl TreePut {
 
     /// The put of a key with a value, before it begins.
     #[inline]
-    pub fn new(kind: TreeKind, call: (u64, u64)) -> TreePut
+    pub fn new(kind: NodeKind, call: (u64, u64)) -> TreePut
         ensures { result ≡ put_of kind call }
     {
         TreePut {
@@ -111,8 +111,8 @@ impl TreePut {
         change.raise(above, self.walk.version);
         change.rewrite(above, side.link(), link, To::Fresh);
         let (parent, height) = match self.kind {
-            TreeKind::Plain => (0, 0),
-            TreeKind::Balanced => (above, 1),
+            NodeKind::Plain => (0, 0),
+            NodeKind::Balanced => (above, 1),
         };
         change.fresh = Some(Fresh {
             key: self.walk.key,
@@ -120,7 +120,7 @@ impl TreePut {
             parent,
             height,
         });
-        if self.kind == TreeKind::Balanced {
+        if self.kind == NodeKind::Balanced {
             charge_key_of(change, above, self.above_key);
         }
     }

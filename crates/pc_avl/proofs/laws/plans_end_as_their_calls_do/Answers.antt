@@ -1,5 +1,5 @@
 -- Proved in the crate of the plain tree, for either kind, and with the laws of a remove.
-use Rattle.pc_bst.specs.declared.kind.TreeKind.TheVariants.{Balanced}
+use Rattle.pc_bst.specs.declared.kind.NodeKind.TheVariants.{Balanced}
 use Rattle.pc_bst.specs.GetLaws.{get_is_quiet}
 use Rattle.pc_bst.specs.PutLaws.{put_ends}
 use Rattle.pc_avl.specs.RemoveLaws.{remove_ends_in_change, remove_ends_in_answer}

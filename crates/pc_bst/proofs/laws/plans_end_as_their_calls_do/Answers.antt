@@ -1,5 +1,5 @@
 -- Proved with the laws of each plan.
-use Rattle.pc_bst.specs.declared.kind.TreeKind.TheVariants.{Plain}
+use Rattle.pc_bst.specs.declared.kind.NodeKind.TheVariants.{Plain}
 use Rattle.pc_bst.specs.GetLaws.{get_is_quiet}
 use Rattle.pc_bst.specs.PutLaws.{put_ends}
 use Rattle.pc_bst.specs.RemoveLaws.{remove_ends_in_change, remove_ends_in_answer}
