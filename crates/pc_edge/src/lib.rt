@@ -13,6 +13,3 @@ pub use chunk::{Chunk, DIGITS, SIZE, write_all};
 pub use in_memory::{MemorySink, MemorySource};
 pub use standard::{NeverFails, OpenGate, StdSink, StdSource};
 pub use traits::{Failed, Gate, Sink, Source};
-
-#[cfg(test)]
-mod tests;

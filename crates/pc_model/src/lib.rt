@@ -8,12 +8,6 @@ mod cell;
 mod first_wrong;
 mod laws;
 mod owed;
-#[cfg(test)]
-mod owed_tests;
-#[cfg(test)]
-mod replay_tests;
-#[cfg(test)]
-mod tests;
 
 pub use call::{Call, Entry, Memory, Reply};
 pub use cell::{Counter, Field, Side};

@@ -28,8 +28,3 @@ pub use print::{Extras, print_run};
 pub use read::read_script;
 pub use script::{Script, ScriptFault};
 pub use shape::ShapeLine;
-
-#[cfg(test)]
-mod print_tests;
-#[cfg(test)]
-mod read_tests;

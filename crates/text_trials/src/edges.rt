@@ -1,0 +1,158 @@
+//! Sources, sinks and a chunk, failing calls among them.
+use pc_edge::{
+    Chunk, Failed, Gate, MemorySink, MemorySource, NeverFails, OpenGate, SIZE, Sink, Source,
+    StdSink, StdSource, write_all,
+};
+use std::io::Cursor;
+use std::test::Fail;
+
+/// What a read comes to: how many bytes or a failure, the first byte of the buffer then, and the faults.
+type Reads = (Result<usize, Failed>, u8, u64);
+
+// The second read of `get 5` fails, and a read gives one byte.
+const READS: &[Reads] = &[
+    (Ok(1), b'g', 0),
+    (Err(Failed), b'g', 1),
+    (Ok(1), b'e', 1),
+    (Ok(1), b't', 1),
+    (Ok(1), b' ', 1),
+    (Ok(1), b'5', 1),
+    (Ok(0), b'5', 1),
+];
+
+fn read_so(source: &mut MemorySource, wanted: &[Reads]) -> bool {
+    let mut buf = [0; 4];
+    for row in wanted {
+        let count = source.read(&mut buf);
+        if (count, buf[0], source.faults) != *row {
+            return false;
+        }
+    }
+    true
+}
+
+#[test]
+fn a_source_in_memory_fails_at_the_listed_reads(rt: HostRuntime) -> Result<(), Fail> {
+    let mut source = MemorySource {
+        bytes: Vec::from_slice(rt.alloc(), b"get 5")?,
+        at: 0,
+        piece: 1,
+        fails: Vec::from_slice(rt.alloc(), &[2])?,
+        calls: 0,
+        faults: 0,
+    };
+    assert!(rt; read_so(&mut source, READS));
+    Ok(())
+}
+
+/// A piece that is written, how many bytes of it are taken, what is held then, and the faults.
+type Writes = (&'static [u8], Result<usize, Failed>, &'static [u8], u64);
+
+// The second write to a room of five bytes fails, and a write takes three.
+const WRITES: &[Writes] = &[
+    (b"abcd", Ok(3), b"abc", 0),
+    (b"d", Err(Failed), b"abc", 1),
+    (b"def", Ok(2), b"abcde", 1),
+    (b"f", Err(Failed), b"abcde", 2),
+    (b"", Ok(0), b"abcde", 2),
+    (b"f", Err(Failed), b"abcde", 3),
+];
+
+fn takes_so(sink: &mut MemorySink, wanted: Writes) -> bool {
+    let taken = sink.write(wanted.0) == wanted.1;
+    taken && sink.held.as_slice() == wanted.2 && sink.faults == wanted.3
+}
+
+fn written_so(sink: &mut MemorySink, wanted: &[Writes]) -> bool {
+    for row in wanted {
+        if !takes_so(sink, *row) {
+            return false;
+        }
+    }
+    true
+}
+
+#[test]
+fn a_sink_in_memory_takes_pieces_while_there_is_room(rt: HostRuntime) -> Result<(), Fail> {
+    // A room of real size is found.
+    let mut sink = MemorySink::with_room(rt.alloc(), 4_194_304, 3).expect(&rt, "ample memory");
+    sink.room = 5;
+    sink.fails = Vec::from_slice(rt.alloc(), &[2])?;
+    assert!(rt; written_so(&mut sink, WRITES));
+    Ok(())
+}
+
+fn gives_so<S: Source>(source: &mut S) -> bool {
+    let mut buf = [0; 4];
+    let first = source.read(&mut buf) == Ok(4) && buf == *b"get ";
+    let second = source.read(&mut buf) == Ok(1) && buf == *b"5et ";
+    let last = source.read(&mut buf) == Ok(0) && buf == *b"5et ";
+    first && second && last
+}
+
+#[test]
+fn borrowed_and_standard_sources_give_their_bytes(rt: HostRuntime) {
+    let mut borrowed = NeverFails {
+        bytes: b"get 5",
+        at: 0,
+    };
+    let mut standard = StdSource {
+        inner: Cursor::new(b"get 5".as_slice()),
+        faults: 0,
+    };
+    assert!(rt; gives_so(&mut borrowed) && gives_so(&mut standard));
+    OpenGate.before(1, 1);
+    OpenGate.after(1, 1);
+}
+
+// Whether `none` and a line feed, written to a buffer with this room, end so and leave it so.
+fn fills_so(room: usize, ended: Result<(), Failed>, left: [u8; 5], faults: u64) -> bool {
+    let mut bytes = *b".....";
+    let mut sink = StdSink {
+        inner: &mut bytes[..room.min(5)],
+        faults: 0,
+    };
+    let written = write_all(&mut sink, b"none\n");
+    let counted = sink.faults;
+    written == ended && counted == faults && bytes == left
+}
+
+#[test]
+fn a_standard_sink_that_takes_nothing_fails(rt: HostRuntime) {
+    let whole = fills_so(5, Ok(()), *b"none\n", 0);
+    let front = fills_so(2, Err(Failed), *b"no...", 1);
+    let nothing = fills_so(0, Err(Failed), *b".....", 1);
+    assert!(rt; whole && front && nothing);
+}
+
+// Whether a chunk, filled where it is empty, makes room so on its way to the sink.
+fn makes_room_so(
+    chunk: &mut Chunk,
+    sink: &mut MemorySink,
+    room: usize,
+    wanted: (Result<(), Failed>, usize, usize),
+) -> bool {
+    if chunk.is_empty() {
+        chunk.push(b"left ");
+        chunk.push_number(18446744073709551615);
+        chunk.push_byte(b'\n');
+    }
+    let waiting = chunk.len();
+    let sent = chunk.make_room(sink, room.min(SIZE));
+    (sent, waiting, sink.held.len()) == wanted
+}
+
+#[test]
+fn a_chunk_sends_what_was_put_into_it(rt: HostRuntime) -> Result<(), Fail> {
+    let mut sink = MemorySink::with_room(rt.alloc(), 30, 3).expect(&rt, "ample memory");
+    let mut chunk = Chunk::new();
+    let fits = makes_room_so(&mut chunk, &mut sink, 20, (Ok(()), 26, 0));
+    let sends = makes_room_so(&mut chunk, &mut sink, SIZE, (Ok(()), 26, 26));
+    let fails = makes_room_so(&mut chunk, &mut sink, SIZE, (Err(Failed), 26, 30));
+    let is_empty = chunk.flush(&mut sink) == Ok(());
+    let is_held = sink.held.as_slice() == b"left 18446744073709551615\nleft".as_slice();
+    let shown = format!(in rt.alloc(); "{Failed}")?;
+    let is_shown = shown.as_str() == "a read or a write failed";
+    assert!(rt; fits && sends && fails && is_empty && is_held && is_shown);
+    Ok(())
+}

@@ -1,0 +1,257 @@
+//! The printed text of a run and of each fault, to sinks in memory.
+ghost use Rattle.std.specs.Prelude.{◌≡◌, false};
+
+use pc_edge::{Failed, MemorySink};
+use pc_model::{Call, Counter, Entry, Reply};
+use pc_text::{
+    Extras, Fault, ScriptKind, ShapeLine, print_fault, print_run, printed_run_fixes_history,
+};
+use std::alloc::Global;
+use std::test::Fail;
+
+const TWO_NODES: &[ShapeLine] = &[
+    ShapeLine {
+        depth: 1,
+        key: 3,
+        height: 2,
+        balance: 1,
+    },
+    ShapeLine {
+        depth: 2,
+        key: 1,
+        height: 1,
+        balance: 0,
+    },
+];
+
+const LEANING_RIGHT: &[ShapeLine] = &[ShapeLine {
+    depth: 1,
+    key: 15,
+    height: 3,
+    balance: -1,
+}];
+
+const TWO_CALLS: &[Entry] = &[
+    Entry {
+        pass: 1,
+        number: 1,
+        call: Call::Put { key: 5, value: 50 },
+        reply: Reply::New,
+        stamp: 7,
+    },
+    Entry {
+        pass: 1,
+        number: 2,
+        call: Call::Get { key: 5 },
+        reply: Reply::Value(50),
+        stamp: 9,
+    },
+];
+
+const TWO_LINES: &[u8] = b"1 1.1 put 5 50 = new\n2 1.2 get 5 = 50\nleft 1\n5 50\nend\n";
+
+const OTHER_CALLS: &[Entry] = &[
+    Entry {
+        pass: 2,
+        number: 1,
+        call: Call::Put { key: 1, value: 2 },
+        reply: Reply::Was(3),
+        stamp: 0,
+    },
+    Entry {
+        pass: 2,
+        number: 2,
+        call: Call::Remove { key: 0 },
+        reply: Reply::None,
+        stamp: 0,
+    },
+    Entry {
+        pass: 2,
+        number: 3,
+        call: Call::Ceil { key: 10 },
+        reply: Reply::Pair(11, 12),
+        stamp: 0,
+    },
+    Entry {
+        pass: 2,
+        number: 4,
+        call: Call::Floor {
+            key: 999_999_999_999_999_999,
+        },
+        reply: Reply::Pair(0, 0),
+        stamp: 0,
+    },
+];
+
+const OTHER_LINES: &[u8] = b"1 2.1 put 1 2 = was 3\n2 2.2 remove 0 = none\n3 2.3 ceil 10 = 11 12\n\
+      4 2.4 floor 999999999999999999 = 0 0\nleft 2\n1 2\n11 12\nend\n";
+
+/// A run: its history, its pairs and its shape.
+type Run = (
+    &'static [Entry],
+    &'static [(u64, u64)],
+    Option<&'static [ShapeLine]>,
+);
+
+/// A sink: its room, and how many bytes a write takes.
+type Room = (usize, usize);
+
+const RUNS: &[(Run, Room, Result<(), Failed>, &[u8])] = &[
+    ((TWO_CALLS, &[(5, 50)], None), (1000, 1), Ok(()), TWO_LINES),
+    (
+        (TWO_CALLS, &[(5, 50)], None),
+        (1000, 1000),
+        Ok(()),
+        TWO_LINES,
+    ),
+    (
+        (&[], &[], Some(&[])),
+        (100, 9),
+        Ok(()),
+        b"left 0\nshape 0\nend\n",
+    ),
+    (
+        (&[], &[], Some(TWO_NODES)),
+        (100, 9),
+        Ok(()),
+        b"left 0\nshape 2\n1 3 2 1\n2 1 1 0\nend\n",
+    ),
+    (
+        (&[], &[], Some(LEANING_RIGHT)),
+        (100, 9),
+        Ok(()),
+        b"left 0\nshape 3\n1 15 3 -1\nend\n",
+    ),
+    (
+        (OTHER_CALLS, &[(1, 2), (11, 12)], None),
+        (1000, 7),
+        Ok(()),
+        OTHER_LINES,
+    ),
+    ((TWO_CALLS, &[(5, 50)], None), (0, 1000), Err(Failed), b""),
+    (
+        (TWO_CALLS, &[(5, 50)], None),
+        (10, 1000),
+        Err(Failed),
+        b"1 1.1 put ",
+    ),
+];
+
+fn prints_so(
+    alloc: Global,
+    run: Run,
+    room: Room,
+    wanted: (Result<(), Failed>, &[u8]),
+) -> Result<bool, Fail> {
+    let mut sink = MemorySink::with_room(alloc, room.0, room.1.max(1))?;
+    let extras = Extras {
+        shape: run.2,
+        summary: false,
+    };
+    let ended = print_run(&mut sink, run.0, run.1, extras);
+    Ok(ended == wanted.0 && sink.held.as_slice() == wanted.1)
+}
+
+#[test]
+fn a_run_has_its_text_or_a_front_of_it(rt: HostRuntime) -> Result<(), Fail> {
+    for (i, (run, room, ended, text)) in RUNS.iter().enumerate() {
+        assert!(rt;
+            prints_so(rt.alloc(), *run, *room, (*ended, text))?,
+            "run {i}"
+        );
+    }
+    printed_run_fixes_history();
+    Ok(())
+}
+
+// Each fault with its status and what is shown of it.
+const FAULTS: &[(Fault, u8, &str)] = &[
+    (Fault::Usage, 2, "usage"),
+    (
+        Fault::Script {
+            line: 12,
+            kind: ScriptKind::BadByte,
+        },
+        3,
+        "line 12 bad byte",
+    ),
+    (
+        Fault::Script {
+            line: 12,
+            kind: ScriptKind::UnknownWord,
+        },
+        3,
+        "line 12 unknown word",
+    ),
+    (
+        Fault::Script {
+            line: 12,
+            kind: ScriptKind::WordCount,
+        },
+        3,
+        "line 12 word count",
+    ),
+    (
+        Fault::Script {
+            line: 12,
+            kind: ScriptKind::BadNumber,
+        },
+        3,
+        "line 12 bad number",
+    ),
+    (
+        Fault::Script {
+            line: 12,
+            kind: ScriptKind::TooManyClients,
+        },
+        3,
+        "line 12 too many clients",
+    ),
+    (
+        Fault::Script {
+            line: 12,
+            kind: ScriptKind::TooManyLines,
+        },
+        3,
+        "line 12 too many lines",
+    ),
+    (Fault::NotBuilt, 3, "not built"),
+    (Fault::Read, 4, "read"),
+    (Fault::TooLargeInput, 6, "input too large"),
+    (Fault::TooManySlots, 6, "too many slots"),
+    (
+        Fault::Slots {
+            client: 3,
+            number: 40,
+        },
+        7,
+        "slots 3.40",
+    ),
+    (Fault::Numbers(Counter::Attempt), 8, "numbers attempt"),
+    (Fault::Numbers(Counter::Install), 8, "numbers install"),
+    (Fault::Numbers(Counter::Stamp), 8, "numbers stamp"),
+    (Fault::Numbers(Counter::Version), 8, "numbers version"),
+    (Fault::Numbers(Counter::Epoch), 8, "numbers epoch"),
+    (Fault::Memory, 9, "memory"),
+];
+
+// What a fault shows, and the line that is written for it.
+fn is_told_so(alloc: Global, fault: Fault, status: u8, words: &str) -> Result<bool, Fail> {
+    let mut sink = MemorySink::with_room(alloc, 100, 100)?;
+    let ended = print_fault(&mut sink, &fault);
+    let shown = format!(in alloc; "{fault}")?;
+    let line = format!(in alloc; "fault {words}\n")?;
+    let is_printed = ended == Ok(()) && sink.held.as_slice() == line.as_bytes();
+    Ok(is_printed && fault.status() == status && shown.as_str() == words)
+}
+
+#[test]
+fn a_fault_has_its_status_and_its_line(rt: HostRuntime) -> Result<(), Fail> {
+    for (i, (fault, status, words)) in FAULTS.iter().enumerate() {
+        assert!(rt;
+            is_told_so(rt.alloc(), *fault, *status, words)?,
+            "fault {i}"
+        );
+    }
+    Ok(())
+}
