@@ -7,8 +7,6 @@ mod get;
 mod laws;
 mod put;
 mod remove;
-#[cfg(test)]
-mod tests;
 
 pub use charges::debts;
 pub use get::AvlGet;

@@ -8,8 +8,6 @@ mod kind;
 mod laws;
 mod put;
 mod remove;
-#[cfg(test)]
-mod tests;
 mod tree_put;
 
 pub use get::BstGet;

@@ -6,8 +6,6 @@ mod ceil;
 mod floor;
 mod laws;
 mod search;
-#[cfg(test)]
-mod tests;
 
 pub use ceil::CeilPlan;
 pub use floor::FloorPlan;

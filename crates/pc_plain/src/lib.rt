@@ -6,8 +6,6 @@ mod laws;
 mod node_store;
 mod node_words;
 mod plain;
-#[cfg(test)]
-mod plain_tests;
 mod run;
 mod tree_pairs;
 mod tree_shape;

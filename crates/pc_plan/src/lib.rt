@@ -4,13 +4,9 @@
 #![tactic(auto)]
 
 mod change;
-#[cfg(test)]
-mod change_tests;
 mod laws;
 mod plan;
 mod walk;
-#[cfg(test)]
-mod walk_tests;
 
 pub use change::{Add, Change, Fresh, To};
 pub use laws::{exchanges_fit, standing_is_agreeing};

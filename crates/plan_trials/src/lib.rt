@@ -1,6 +1,19 @@
-//! Trials of the plans of the plain tree on plain cells: whole runs, compared with what was worked out by
-//! hand. It stands above the crates that it tries, so that their own tests stay few and quick.
+//! Trials of the plans: what they ask for as they are told a small tree by hand, the exchanges that they write, and
+//! whole runs on plain cells, compared with what was worked out by hand. It stands above the crates that it tries,
+//! so that these are proved without tests.
 #![tactic(auto)]
 
 #[cfg(test)]
+mod avl_steps;
+#[cfg(test)]
+mod bst_steps;
+#[cfg(test)]
+mod changes;
+#[cfg(test)]
+mod order_steps;
+#[cfg(test)]
 mod plain_runs;
+#[cfg(test)]
+mod told;
+#[cfg(test)]
+mod walks;

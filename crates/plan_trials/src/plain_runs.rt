@@ -8,6 +8,7 @@ use pc_bst::{BstGet, BstPut, BstRemove};
 use pc_model::{Memory, Reply};
 use pc_plain::{NoPlainSlot, PlainCells, pairs, run_plan, shape};
 use std::alloc::Global;
+use std::test::Fail;
 
 /// What is called, with small keys and values.
 #[derive(Clone, Copy)]
@@ -45,13 +46,11 @@ fn answer(cells: &mut PlainCells, called: Called) -> Answer
 /// Whether the calls are answered so on cells with so many slots, and leave these pairs.
 fn runs_so(
     alloc: Global,
-    slots: u32,
+    slots: u16,
     calls: &[(Called, Answer)],
     left: &[(u64, u64)],
-) -> Result<bool, Memory>
-    requires { slots ≤ 61000 }
-{
-    let mut cells = opened(alloc, slots)?;
+) -> Result<bool, Memory> {
+    let mut cells = opened(alloc, u32::from(slots.min(61_000)))?;
     for (called, wanted) in calls {
         if answer(&mut cells, *called) != *wanted {
             return Ok(false);
@@ -85,20 +84,21 @@ const FULL: Answer = Err(NoPlainSlot { live: 2 });
 
 const NEW: Answer = Ok(Reply::New);
 
-#[test]
-fn calls_are_answered_as_the_sorted_map_answers(rt: HostRuntime) {
-    let alloc = rt.alloc();
-    let nothing = runs_so(
-        alloc,
+/// The slots, the calls with their answers, and the pairs that are left.
+type Run = (u16, &'static [(Called, Answer)], &'static [(u64, u64)]);
+
+const RUNS: &[Run] = &[
+    (0, &[], &[]),
+    (4, &[], &[]),
+    (
         2,
         &[
             (Called::Get(5), Ok(Reply::None)),
             (Called::Remove(5), Ok(Reply::None)),
         ],
         &[],
-    );
-    let changes = runs_so(
-        alloc,
+    ),
+    (
         4,
         &[
             (Called::Put(5, 1), NEW),
@@ -109,15 +109,12 @@ fn calls_are_answered_as_the_sorted_map_answers(rt: HostRuntime) {
             (Called::Put(9, 90), NEW),
         ],
         &[(3, 30), (5, 2), (9, 90)],
-    );
-    assert!(rt; nothing == Ok(true) && changes == Ok(true));
-}
+    ),
+];
 
-#[test]
-fn a_node_with_two_children_goes(rt: HostRuntime) {
-    let alloc = rt.alloc();
-    let right_child = runs_so(
-        alloc,
+// A node with two children goes: its successor is its right child, or lies deeper.
+const LIFTS: &[Run] = &[
+    (
         3,
         &[
             (Called::Put(2, 20), NEW),
@@ -126,9 +123,8 @@ fn a_node_with_two_children_goes(rt: HostRuntime) {
             (Called::Remove(2), Ok(Reply::Value(20))),
         ],
         &[(1, 10), (3, 30)],
-    );
-    let deeper = runs_so(
-        alloc,
+    ),
+    (
         6,
         &[
             (Called::Put(10, 10), NEW),
@@ -140,15 +136,12 @@ fn a_node_with_two_children_goes(rt: HostRuntime) {
             (Called::Remove(10), Ok(Reply::Value(10))),
         ],
         &[(5, 5), (15, 15), (17, 17), (20, 20), (25, 25)],
-    );
-    assert!(rt; right_child == Ok(true) && deeper == Ok(true));
-}
+    ),
+];
 
-#[test]
-fn full_cells_refuse_a_new_key_and_stay(rt: HostRuntime) {
-    let alloc = rt.alloc();
-    let refused = runs_so(
-        alloc,
+// Full cells refuse a new key and stay; a slot that became free is used.
+const FULL_CELLS: &[Run] = &[
+    (
         2,
         &[
             (Called::Put(1, 1), NEW),
@@ -157,9 +150,8 @@ fn full_cells_refuse_a_new_key_and_stay(rt: HostRuntime) {
             (Called::Put(2, 5), Ok(Reply::Was(2))),
         ],
         &[(1, 1), (2, 5)],
-    );
-    let freed = runs_so(
-        alloc,
+    ),
+    (
         2,
         &[
             (Called::Put(1, 1), NEW),
@@ -169,17 +161,28 @@ fn full_cells_refuse_a_new_key_and_stay(rt: HostRuntime) {
             (Called::Put(3, 3), NEW),
         ],
         &[(2, 2), (3, 3)],
-    );
-    assert!(rt; refused == Ok(true) && freed == Ok(true));
-}
+    ),
+];
 
 #[test]
-fn shapes_are_those_worked_out(rt: HostRuntime) {
-    let alloc = rt.alloc();
-    let empty = has_shape_so(alloc, &[4], 4, &[]);
-    let of_three = has_shape_so(alloc, &[2, 1, 3], 2, &[(1, 3, 2, 1), (2, 1, 1, 0)]);
-    let of_six = has_shape_so(
-        alloc,
+fn calls_are_answered_as_the_sorted_map_answers(rt: HostRuntime) {
+    for runs in [RUNS, LIFTS, FULL_CELLS] {
+        for (i, (slots, calls, left)) in runs.iter().enumerate() {
+            assert!(rt;
+                runs_so(rt.alloc(), *slots, calls, left) == Ok(true),
+                "run {i}"
+            );
+        }
+    }
+}
+
+/// The keys that are put, the one that is removed then, and the shape.
+type Shape = (&'static [u32], u32, &'static [(u32, u64, u32, i64)]);
+
+const SHAPES: &[Shape] = &[
+    (&[4], 4, &[]),
+    (&[2, 1, 3], 2, &[(1, 3, 2, 1), (2, 1, 1, 0)]),
+    (
         &[10, 5, 20, 15, 25, 17],
         10,
         &[
@@ -189,6 +192,15 @@ fn shapes_are_those_worked_out(rt: HostRuntime) {
             (3, 17, 1, 0),
             (3, 25, 1, 0),
         ],
-    );
-    assert_eq!(rt; [empty, of_three, of_six], [Ok(true); 3]);
+    ),
+];
+
+#[test]
+fn shapes_are_those_worked_out(rt: HostRuntime) -> Result<(), Fail> {
+    for (puts, removed, wanted) in SHAPES {
+        assert!(rt; has_shape_so(rt.alloc(), puts, *removed, wanted) == Ok(true));
+    }
+    let shown = format!(in rt.alloc(); "{}", NoPlainSlot { live: 3 })?;
+    assert!(rt; shown.as_str() == "no slot is free");
+    Ok(())
 }

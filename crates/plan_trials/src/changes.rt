@@ -1,6 +1,6 @@
 //! A change is built word by word, and built anew after it was forgotten.
-use crate::change::{Add, Change, Fresh, To};
 use pc_model::{Field, Reply};
+use pc_plan::{Add, Change, Fresh, To};
 
 fn word(field: Field, old: u64, new: To) -> Add {
     Add {

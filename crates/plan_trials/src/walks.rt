@@ -1,8 +1,7 @@
 //! A walk as it is told a small tree by hand: below the sentinel, node 1, hangs node 2 with key 10, and on
 //! its right node 3.
-use crate::plan::{Told, Turn};
-use crate::walk::{SENTINEL, Step, Walk, leads_back, node_of};
 use pc_model::{Field, Side};
+use pc_plan::{SENTINEL, Step, Told, Turn, Walk, leads_back, node_of};
 
 const TO_2: [(Told, Step); 5] = [
     (Told::Begin, Step::Visit(SENTINEL)),
