@@ -75,7 +75,7 @@ fn written_so(sink: &mut MemorySink, wanted: &[Writes]) -> bool {
 #[test]
 fn a_sink_in_memory_takes_pieces_while_there_is_room(rt: HostRuntime) -> Result<(), Fail> {
     // A room of real size is found.
-    let mut sink = MemorySink::with_room(rt.alloc(), 4_194_304, 3).expect(&rt, "ample memory");
+    let mut sink = MemorySink::with_room(rt.alloc(), 4_194_304, 3)?;
     sink.room = 5;
     sink.fails = Vec::from_slice(rt.alloc(), &[2])?;
     assert!(rt; written_so(&mut sink, WRITES));
@@ -142,17 +142,20 @@ fn makes_room_so(
     (sent, waiting, sink.held.len()) == wanted
 }
 
+fn sends_so(chunk: &mut Chunk, sink: &mut MemorySink) -> bool {
+    let fits = makes_room_so(chunk, sink, 20, (Ok(()), 26, 0));
+    let sends = makes_room_so(chunk, sink, SIZE, (Ok(()), 26, 26));
+    let fails = makes_room_so(chunk, sink, SIZE, (Err(Failed), 26, 30));
+    let is_sent = chunk.flush(sink) == Ok(());
+    fits && sends && fails && is_sent
+}
+
 #[test]
 fn a_chunk_sends_what_was_put_into_it(rt: HostRuntime) -> Result<(), Fail> {
-    let mut sink = MemorySink::with_room(rt.alloc(), 30, 3).expect(&rt, "ample memory");
-    let mut chunk = Chunk::new();
-    let fits = makes_room_so(&mut chunk, &mut sink, 20, (Ok(()), 26, 0));
-    let sends = makes_room_so(&mut chunk, &mut sink, SIZE, (Ok(()), 26, 26));
-    let fails = makes_room_so(&mut chunk, &mut sink, SIZE, (Err(Failed), 26, 30));
-    let is_empty = chunk.flush(&mut sink) == Ok(());
+    let mut sink = MemorySink::with_room(rt.alloc(), 30, 3)?;
+    let is_sent = sends_so(&mut Chunk::new(), &mut sink);
     let is_held = sink.held.as_slice() == b"left 18446744073709551615\nleft".as_slice();
     let shown = format!(in rt.alloc(); "{Failed}")?;
-    let is_shown = shown.as_str() == "a read or a write failed";
-    assert!(rt; fits && sends && fails && is_empty && is_held && is_shown);
+    assert!(rt; is_sent && is_held && shown.as_str() == "a read or a write failed");
     Ok(())
 }

@@ -2,11 +2,11 @@
 ghost use Rattle.std.specs.Prelude.{◌≡◌, false};
 
 use pc_edge::{Failed, MemorySink};
-use pc_model::{Call, Counter, Entry, Reply};
+use pc_model::{Call, Counter, Entry, Memory, Reply};
 use pc_text::{
     Extras, Fault, ScriptKind, ShapeLine, print_fault, print_run, printed_run_fixes_history,
 };
-use std::alloc::Global;
+use std::alloc::{AllocError, Global};
 use std::test::Fail;
 
 const TWO_NODES: &[ShapeLine] = &[
@@ -142,7 +142,7 @@ fn prints_so(
     run: Run,
     room: Room,
     wanted: (Result<(), Failed>, &[u8]),
-) -> Result<bool, Fail> {
+) -> Result<bool, Memory> {
     let mut sink = MemorySink::with_room(alloc, room.0, room.1.max(1))?;
     let extras = Extras {
         shape: run.2,
@@ -152,16 +152,14 @@ fn prints_so(
     Ok(ended == wanted.0 && sink.held.as_slice() == wanted.1)
 }
 
-#[test]
-fn a_run_has_its_text_or_a_front_of_it(rt: HostRuntime) -> Result<(), Fail> {
+// The first row of the table that is not so.
+fn first_run_misprinted(alloc: Global) -> Result<Option<usize>, Memory> {
     for (i, (run, room, ended, text)) in RUNS.iter().enumerate() {
-        assert!(rt;
-            prints_so(rt.alloc(), *run, *room, (*ended, text))?,
-            "run {i}"
-        );
+        if !prints_so(alloc, *run, *room, (*ended, text))? {
+            return Ok(Some(i));
+        }
     }
-    printed_run_fixes_history();
-    Ok(())
+    Ok(None)
 }
 
 // Each fault with its status and what is shown of it.
@@ -235,23 +233,36 @@ const FAULTS: &[(Fault, u8, &str)] = &[
     (Fault::Memory, 9, "memory"),
 ];
 
-// What a fault shows, and the line that is written for it.
-fn is_told_so(alloc: Global, fault: Fault, status: u8, words: &str) -> Result<bool, Fail> {
+// Whether a fault's line is written so.
+fn is_written_so(alloc: Global, fault: &Fault, words: &str) -> Result<bool, Memory> {
     let mut sink = MemorySink::with_room(alloc, 100, 100)?;
-    let ended = print_fault(&mut sink, &fault);
+    let ended = print_fault(&mut sink, fault);
+    let Some(rest) = sink.held.strip_prefix(b"fault ") else {
+        return Ok(false);
+    };
+    Ok(ended == Ok(()) && rest.strip_suffix(b"\n") == Some(words.as_bytes()))
+}
+
+fn is_shown_so(alloc: Global, fault: &Fault, words: &str) -> Result<bool, AllocError> {
     let shown = format!(in alloc; "{fault}")?;
-    let line = format!(in alloc; "fault {words}\n")?;
-    let is_printed = ended == Ok(()) && sink.held.as_slice() == line.as_bytes();
-    Ok(is_printed && fault.status() == status && shown.as_str() == words)
+    Ok(shown.as_str() == words)
+}
+
+fn first_fault_mistold(alloc: Global) -> Result<Option<usize>, Fail> {
+    for (i, (fault, status, words)) in FAULTS.iter().enumerate() {
+        let is_told = is_written_so(alloc, fault, words)? && is_shown_so(alloc, fault, words)?;
+        if !is_told || fault.status() != *status {
+            return Ok(Some(i));
+        }
+    }
+    Ok(None)
 }
 
 #[test]
-fn a_fault_has_its_status_and_its_line(rt: HostRuntime) -> Result<(), Fail> {
-    for (i, (fault, status, words)) in FAULTS.iter().enumerate() {
-        assert!(rt;
-            is_told_so(rt.alloc(), *fault, *status, words)?,
-            "fault {i}"
-        );
-    }
+fn runs_and_faults_have_their_texts_or_a_front_of_them(rt: HostRuntime) -> Result<(), Fail> {
+    let run = first_run_misprinted(rt.alloc())?;
+    let fault = first_fault_mistold(rt.alloc())?;
+    assert_eq!(rt; [run, fault], [None; 2]);
+    printed_run_fixes_history();
     Ok(())
 }

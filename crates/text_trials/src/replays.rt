@@ -1,18 +1,21 @@
 //! Lists of entries with right and wrong replies.
 use pc_model::{Call, Entry, Reply, Wrong, replay};
-use std::alloc::Global;
+use std::alloc::{AllocError, Global};
 use std::test::Fail;
 
 /// Calls with their replies.
 type List = &'static [(Call, Reply)];
 
 // Each list with the first wrong place and the reply that is right there, or none.
-const LISTS: &[(List, Option<(usize, Reply)>)] = &[
+const LISTS: &[(List, Option<Wrong>)] = &[
     (&[], None),
     // A first put is new.
     (
         &[(Call::Put { key: 5, value: 1 }, Reply::Was(3))],
-        Some((0, Reply::New)),
+        Some(Wrong {
+            place: 0,
+            expected: Reply::New,
+        }),
     ),
     // A get finds what was put.
     (
@@ -47,7 +50,10 @@ const LISTS: &[(List, Option<(usize, Reply)>)] = &[
             (Call::Remove { key: 5 }, Reply::Value(51)),
             (Call::Get { key: 5 }, Reply::None),
         ],
-        Some((1, Reply::Value(50))),
+        Some(Wrong {
+            place: 1,
+            expected: Reply::Value(50),
+        }),
     ),
 ];
 
@@ -100,43 +106,59 @@ fn entry(row: (Call, Reply)) -> Entry {
     }
 }
 
-fn finds(
-    alloc: Global,
-    list: &[(Call, Reply)],
-    place: Option<(usize, Reply)>,
-) -> Result<bool, Fail> {
+fn entries_of(alloc: Global, list: &[(Call, Reply)]) -> Result<Vec<Entry>, AllocError> {
     let mut entries = Vec::new(alloc);
     for row in list {
         entries.push(entry(*row))?;
     }
-    let wrong = match place {
-        Some((place, expected)) => Some(Wrong { place, expected }),
-        None => None,
-    };
+    Ok(entries)
+}
+
+fn finds(alloc: Global, list: &[(Call, Reply)], wrong: Option<Wrong>) -> Result<bool, Fail> {
+    let entries = entries_of(alloc, list)?;
     Ok(replay(alloc, &entries)? == wrong)
 }
 
 // Whether a call is found right with the one reply and wrong with the other, between other calls.
 fn is_told_apart(alloc: Global, row: (Call, Reply, Reply)) -> Result<bool, Fail> {
     let (call, right, wrong) = row;
-    let list = |reply: Reply| {
-        [
-            (Call::Put { key: 9, value: 90 }, Reply::New),
-            (Call::Put { key: 5, value: 50 }, Reply::New),
-            (call, reply),
-            (Call::Get { key: 2 }, Reply::None),
-        ]
+    let mut list = [
+        (Call::Put { key: 9, value: 90 }, Reply::New),
+        (Call::Put { key: 5, value: 50 }, Reply::New),
+        (call, right),
+        (Call::Get { key: 2 }, Reply::None),
+    ];
+    let is_right = finds(alloc, &list, None)?;
+    list[2] = (call, wrong);
+    let found = Wrong {
+        place: 2,
+        expected: right,
     };
-    Ok(finds(alloc, &list(right), None)? && finds(alloc, &list(wrong), Some((2, right)))?)
+    Ok(is_right && finds(alloc, &list, Some(found))?)
+}
+
+// The first list in which another place is found wrong.
+fn first_wrong_list(alloc: Global) -> Result<Option<usize>, Fail> {
+    for (i, (list, wrong)) in LISTS.iter().enumerate() {
+        if !finds(alloc, list, *wrong)? {
+            return Ok(Some(i));
+        }
+    }
+    Ok(None)
+}
+
+fn first_wrong_call(alloc: Global) -> Result<Option<usize>, Fail> {
+    for (i, row) in CALLS.iter().enumerate() {
+        if !is_told_apart(alloc, *row)? {
+            return Ok(Some(i));
+        }
+    }
+    Ok(None)
 }
 
 #[test]
 fn the_first_wrong_reply_is_found(rt: HostRuntime) -> Result<(), Fail> {
-    for (i, (list, place)) in LISTS.iter().enumerate() {
-        assert!(rt; finds(rt.alloc(), list, *place)?, "list {i}");
-    }
-    for (i, row) in CALLS.iter().enumerate() {
-        assert!(rt; is_told_apart(rt.alloc(), *row)?, "call {i}");
-    }
+    let found = [first_wrong_list(rt.alloc())?, first_wrong_call(rt.alloc())?];
+    assert_eq!(rt; found, [None; 2]);
     Ok(())
 }

@@ -7,7 +7,6 @@ use pc_text::{
     written_commands_read_back,
 };
 use std::alloc::{AllocError, Global};
-use std::test::Fail;
 
 const PUT_AND_GET: &[Call] = &[Call::Put { key: 7, value: 1 }, Call::Get { key: 7 }];
 
@@ -150,13 +149,14 @@ const SCRIPTS: &[(&[u8], &[&[Call]])] = &[
     ),
 ];
 
-#[test]
-fn scripts_are_read(rt: HostRuntime) {
+// The first row of the table that is not so.
+fn first_script_misread(alloc: Global) -> Option<usize> {
     for (i, (bytes, wanted)) in SCRIPTS.iter().enumerate() {
-        assert!(rt; are_read(rt.alloc(), bytes, wanted), "row {i}");
+        if !are_read(alloc, bytes, wanted) {
+            return Some(i);
+        }
     }
-    empty_input_gives_empty_script();
-    written_commands_read_back();
+    None
 }
 
 const BAD_LINES: &[(&[u8], u32, ScriptKind)] = &[
@@ -210,15 +210,14 @@ const BAD_LINES: &[(&[u8], u32, ScriptKind)] = &[
     (b"get x\nput 1\n", 1, ScriptKind::BadNumber),
 ];
 
-#[test]
-fn the_first_bad_line_is_told(rt: HostRuntime) {
+fn first_fault_mistold(alloc: Global) -> Option<usize> {
     for (i, (bytes, line, kind)) in BAD_LINES.iter().enumerate() {
-        let fault = ScriptFault::Bad {
-            line: *line,
-            kind: *kind,
-        };
-        assert!(rt; counts(rt.alloc(), bytes) == Err(fault), "row {i}");
+        let (line, kind) = (*line, *kind);
+        if counts(alloc, bytes) != Err(ScriptFault::Bad { line, kind }) {
+            return Some(i);
+        }
     }
+    None
 }
 
 /// The first bytes of a script, those that come again and again, how often, and the last.
@@ -279,12 +278,26 @@ fn joined(alloc: Global, long: Long) -> Result<Vec<u8>, AllocError> {
     Ok(bytes)
 }
 
+fn first_long_script_misread(alloc: Global) -> Result<Option<usize>, AllocError> {
+    for (i, (long, wanted)) in LONG_SCRIPTS.iter().enumerate() {
+        let bytes = joined(alloc, *long)?;
+        if counts(alloc, &bytes) != *wanted {
+            return Ok(Some(i));
+        }
+    }
+    Ok(None)
+}
+
+#[test]
+fn scripts_are_read_or_their_first_bad_line_is_told(rt: HostRuntime) {
+    let read = first_script_misread(rt.alloc());
+    assert_eq!(rt; [read, first_fault_mistold(rt.alloc())], [None; 2]);
+    empty_input_gives_empty_script();
+    written_commands_read_back();
+}
+
 // The most commands and the most bytes find their memory, and one command more is refused.
 #[test]
-fn scripts_of_full_size_are_read(rt: HostRuntime) -> Result<(), Fail> {
-    for (i, (long, wanted)) in LONG_SCRIPTS.iter().enumerate() {
-        let bytes = joined(rt.alloc(), *long)?;
-        assert!(rt; counts(rt.alloc(), &bytes) == *wanted, "row {i}");
-    }
-    Ok(())
+fn scripts_of_full_size_are_read(rt: HostRuntime) {
+    assert!(rt; first_long_script_misread(rt.alloc()) == Ok(None));
 }

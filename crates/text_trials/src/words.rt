@@ -8,15 +8,21 @@ use pc_model::{
 
 /// Whether each is equal to itself and to no other.
 fn are_told_apart<T: PartialEq>(all: &[T]) -> bool {
-    all.iter()
-        .enumerate()
-        .all(|(i, one)| is_the_only(all, i, one))
+    for (i, one) in all.iter().enumerate() {
+        if !is_the_only(all, i, one) {
+            return false;
+        }
+    }
+    true
 }
 
 fn is_the_only<T: PartialEq>(all: &[T], place: usize, one: &T) -> bool {
-    all.iter()
-        .enumerate()
-        .all(|(i, other)| (one == other) == (i == place))
+    for (i, other) in all.iter().enumerate() {
+        if (one == other) != (i == place) {
+            return false;
+        }
+    }
+    true
 }
 
 const CALLS: &[Call] = &[
@@ -93,10 +99,11 @@ fn words_are_told_apart(rt: HostRuntime) {
     let of_cells = are_told_apart(FIELDS) && are_told_apart(COUNTERS);
     let of_debts = are_told_apart(SETTLES) && are_told_apart(OWINGS) && Memory == Memory;
     assert!(rt; told && of_cells && of_debts);
+    call_laws();
 }
 
-#[test]
-fn laws_can_be_called(rt: HostRuntime) {
+// The laws can be called.
+fn call_laws() {
     sorted_map_is_finite_map();
     ceil_and_floor_are_nearest();
     replay_goes_in_parts();
