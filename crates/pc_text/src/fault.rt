@@ -1,12 +1,14 @@
 //! The faults that end a run, and their lines.
-ghost use Rattle.std.specs.Prelude.{◌≡◌, ◌+◌, ◌≤◌, [], ◌++◌, length};
+ghost use Rattle.std.specs.Prelude.{◌≡◌, ◌+◌, ◌≤◌, [], ◌++◌, codes, length};
+ghost use Rattle.std.specs.Fmt.{decimal};
 ghost use Rattle.pc_edge.specs.Sending.{Writes};
 ghost use Rattle.pc_text.specs.Fault.{status_of};
 ghost use Rattle.pc_text.specs.FaultLine.{kind_text, counter_text, fault_text, fault_line};
+ghost use Rattle.pc_text.specs.Printed.{turn_text};
 
 use crate::kind::ScriptKind;
 use crate::lines::{Line, print_line};
-use crate::pieces::push_turn;
+use crate::pieces::{push_turn, push_word_and_number};
 use crate::script::ScriptFault;
 use pc_edge::{Chunk, Failed, SIZE, Sink};
 use pc_model::{Counter, Memory};
@@ -130,7 +132,7 @@ pub(crate) fn push_fault(chunk: &mut Chunk, fault: Fault)
 }
 
 /// Puts what a fault's line says of it.
-#[tactic(auto, unfolding(crate::specs::FaultLine::fault_text), using(std::proofs::Common::append_assoc))]
+#[tactic(auto, unfolding(crate::specs::FaultLine::fault_text))]
 fn push_words(chunk: &mut Chunk, fault: Fault)
     requires { length chunk.old + 128 ≤ SIZE }
     ensures text { chunk.new ≡ chunk.old ++ fault_text fault }
@@ -138,57 +140,78 @@ fn push_words(chunk: &mut Chunk, fault: Fault)
 {
     match fault {
         Fault::Usage => chunk.push(b"usage"),
-        Fault::Script { line, kind } => {
-            chunk.push(b"line ");
-            chunk.push_number(u64::from(line));
-            chunk.push_byte(b' ');
-            push_kind(chunk, kind);
-        }
+        Fault::Script { line, kind } => push_script_fault(chunk, line, kind),
         Fault::Read => chunk.push(b"read"),
         Fault::TooLargeInput => chunk.push(b"input too large"),
         Fault::TooManySlots => chunk.push(b"too many slots"),
-        Fault::Slots { client, number } => {
-            chunk.push(b"slots ");
-            push_turn(chunk, client, number);
-        }
-        Fault::Numbers(counter) => {
-            chunk.push(b"numbers ");
-            push_counter(chunk, counter);
-        }
+        Fault::Slots { client, number } => push_slots(chunk, client, number),
+        Fault::Numbers(counter) => push_numbers(chunk, counter),
         Fault::Memory => chunk.push(b"memory"),
         Fault::NotBuilt => chunk.push(b"not built"),
     }
 }
 
-/// Puts what is wrong with a line of a script.
-#[tactic(auto, unfolding(crate::specs::FaultLine::kind_text), using(std::proofs::Common::append_assoc))]
-fn push_kind(chunk: &mut Chunk, kind: ScriptKind)
-    requires { length chunk.old + 16 ≤ SIZE }
-    ensures text { chunk.new ≡ chunk.old ++ kind_text kind }
-    ensures short { length chunk.new ≤ length chunk.old + 16 }
+/// Puts where a script is faulty, and what is wrong there.
+#[tactic(auto, using(std::proofs::Common::append_assoc))]
+fn push_script_fault(chunk: &mut Chunk, line: u32, kind: ScriptKind)
+    requires { length chunk.old + 64 ≤ SIZE }
+    ensures text { chunk.new ≡ chunk.old ++ codes "line " ++ decimal line ++ codes " " ++ kind_text kind }
+    ensures short { length chunk.new ≤ length chunk.old + 64 }
+{
+    push_word_and_number(chunk, b"line ", u64::from(line));
+    chunk.push_byte(b' ');
+    chunk.push(kind_words(kind));
+}
+
+/// Puts the call at which the slots ran out.
+#[tactic(auto, using(std::proofs::Common::append_assoc))]
+fn push_slots(chunk: &mut Chunk, client: u32, number: u32)
+    requires { length chunk.old + 64 ≤ SIZE }
+    ensures text { chunk.new ≡ chunk.old ++ codes "slots " ++ turn_text client number }
+    ensures short { length chunk.new ≤ length chunk.old + 64 }
+{
+    chunk.push(b"slots ");
+    push_turn(chunk, client, number);
+}
+
+/// Puts the counter whose numbers came to their end.
+#[tactic(auto, using(std::proofs::Common::append_assoc))]
+fn push_numbers(chunk: &mut Chunk, counter: Counter)
+    requires { length chunk.old + 64 ≤ SIZE }
+    ensures text { chunk.new ≡ chunk.old ++ codes "numbers " ++ counter_text counter }
+    ensures short { length chunk.new ≤ length chunk.old + 64 }
+{
+    chunk.push(b"numbers ");
+    chunk.push(counter_words(counter));
+}
+
+/// What is wrong with a line of a script, in words.
+#[tactic(auto, unfolding(crate::specs::FaultLine::kind_text))]
+fn kind_words(kind: ScriptKind) -> &'static [u8]
+    ensures words { result.now ≡ kind_text kind }
+    ensures short { length result.now ≤ 16 }
 {
     match kind {
-        ScriptKind::BadByte => chunk.push(b"bad byte"),
-        ScriptKind::UnknownWord => chunk.push(b"unknown word"),
-        ScriptKind::WordCount => chunk.push(b"word count"),
-        ScriptKind::BadNumber => chunk.push(b"bad number"),
-        ScriptKind::TooManyClients => chunk.push(b"too many clients"),
-        ScriptKind::TooManyLines => chunk.push(b"too many lines"),
+        ScriptKind::BadByte => b"bad byte",
+        ScriptKind::UnknownWord => b"unknown word",
+        ScriptKind::WordCount => b"word count",
+        ScriptKind::BadNumber => b"bad number",
+        ScriptKind::TooManyClients => b"too many clients",
+        ScriptKind::TooManyLines => b"too many lines",
     }
 }
 
-/// Puts the name of a counter.
-#[tactic(auto, unfolding(crate::specs::FaultLine::counter_text), using(std::proofs::Common::append_assoc))]
-fn push_counter(chunk: &mut Chunk, counter: Counter)
-    requires { length chunk.old + 16 ≤ SIZE }
-    ensures text { chunk.new ≡ chunk.old ++ counter_text counter }
-    ensures short { length chunk.new ≤ length chunk.old + 16 }
+/// The name of a counter.
+#[tactic(auto, unfolding(crate::specs::FaultLine::counter_text))]
+fn counter_words(counter: Counter) -> &'static [u8]
+    ensures words { result.now ≡ counter_text counter }
+    ensures short { length result.now ≤ 16 }
 {
     match counter {
-        Counter::Attempt => chunk.push(b"attempt"),
-        Counter::Install => chunk.push(b"install"),
-        Counter::Stamp => chunk.push(b"stamp"),
-        Counter::Version => chunk.push(b"version"),
-        Counter::Epoch => chunk.push(b"epoch"),
+        Counter::Attempt => b"attempt",
+        Counter::Install => b"install",
+        Counter::Stamp => b"stamp",
+        Counter::Version => b"version",
+        Counter::Epoch => b"epoch",
     }
 }

@@ -5,7 +5,10 @@ ghost use Rattle.pc_text.specs.Printed.{entry_line, pair_line, left_line, height
 ghost use Rattle.pc_text.specs.LineText.{line_text};
 
 use crate::fault::{Fault, push_fault};
-use crate::pieces::{push_call, push_reply, push_signed, push_turn};
+use crate::pieces::{
+    push_call, push_number_and_blank, push_reply, push_signed, push_turn, push_two_numbers,
+    push_word_and_number,
+};
 use crate::shape::ShapeLine;
 use pc_edge::{Chunk, Failed, SIZE, Sink};
 use pc_model::Entry;
@@ -63,8 +66,7 @@ fn push_entry(chunk: &mut Chunk, place: u64, entry: &Entry)
     requires { length chunk.old + ROOM ≤ SIZE }
     ensures { chunk.new ≡ chunk.old ++ entry_line place entry.now }
 {
-    chunk.push_number(place);
-    chunk.push_byte(b' ');
+    push_number_and_blank(chunk, place);
     push_turn(chunk, entry.pass, entry.number);
     chunk.push_byte(b' ');
     push_call(chunk, &entry.call);
@@ -79,9 +81,7 @@ fn push_pair(chunk: &mut Chunk, key: u64, value: u64)
     requires { length chunk.old + ROOM ≤ SIZE }
     ensures { chunk.new ≡ chunk.old ++ pair_line (key, value) }
 {
-    chunk.push_number(key);
-    chunk.push_byte(b' ');
-    chunk.push_number(value);
+    push_two_numbers(chunk, key, value);
     chunk.push_byte(b'\n');
 }
 
@@ -91,8 +91,7 @@ fn push_left(chunk: &mut Chunk, pairs: usize)
     requires { length chunk.old + ROOM ≤ SIZE }
     ensures { chunk.new ≡ chunk.old ++ left_line pairs }
 {
-    chunk.push(b"left ");
-    chunk.push_number(pairs as u64);
+    push_word_and_number(chunk, b"left ", pairs as u64);
     chunk.push_byte(b'\n');
 }
 
@@ -102,8 +101,7 @@ fn push_height(chunk: &mut Chunk, height: u32)
     requires { length chunk.old + ROOM ≤ SIZE }
     ensures { chunk.new ≡ chunk.old ++ height_line height }
 {
-    chunk.push(b"shape ");
-    chunk.push_number(u64::from(height));
+    push_word_and_number(chunk, b"shape ", u64::from(height));
     chunk.push_byte(b'\n');
 }
 
@@ -113,12 +111,9 @@ fn push_node(chunk: &mut Chunk, node: &ShapeLine)
     requires { length chunk.old + ROOM ≤ SIZE }
     ensures { chunk.new ≡ chunk.old ++ node_line node.now }
 {
-    chunk.push_number(u64::from(node.depth));
-    chunk.push_byte(b' ');
-    chunk.push_number(node.key);
-    chunk.push_byte(b' ');
-    chunk.push_number(u64::from(node.height));
-    chunk.push_byte(b' ');
+    push_number_and_blank(chunk, u64::from(node.depth));
+    push_number_and_blank(chunk, node.key);
+    push_number_and_blank(chunk, u64::from(node.height));
     push_signed(chunk, node.balance);
     chunk.push_byte(b'\n');
 }
