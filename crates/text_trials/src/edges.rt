@@ -12,19 +12,23 @@ type Reads = (Result<usize, Failed>, u8, u64);
 // The second read of `get 5` fails, and a read gives one byte.
 const READS: &[Reads] = &[
     (Ok(1), b'g', 0),
-    (Err(Failed), b'g', 1),
+    (Err(Failed), 0, 1),
     (Ok(1), b'e', 1),
     (Ok(1), b't', 1),
     (Ok(1), b' ', 1),
     (Ok(1), b'5', 1),
-    (Ok(0), b'5', 1),
+    (Ok(0), 0, 1),
 ];
 
-fn read_so(source: &mut MemorySource, wanted: &[Reads]) -> bool {
+fn reads_so(source: &mut MemorySource, wanted: Reads) -> bool {
     let mut buf = [0; 4];
-    for row in wanted {
-        let count = source.read(&mut buf);
-        if (count, buf[0], source.faults) != *row {
+    let count = source.read(&mut buf);
+    (count, buf[0], source.faults) == wanted
+}
+
+fn all_read_so(source: &mut MemorySource) -> bool {
+    for row in READS {
+        if !reads_so(source, *row) {
             return false;
         }
     }
@@ -41,7 +45,7 @@ fn a_source_in_memory_fails_at_the_listed_reads(rt: HostRuntime) -> Result<(), F
         calls: 0,
         faults: 0,
     };
-    assert!(rt; read_so(&mut source, READS));
+    assert!(rt; all_read_so(&mut source));
     Ok(())
 }
 
@@ -63,8 +67,8 @@ fn takes_so(sink: &mut MemorySink, wanted: Writes) -> bool {
     taken && sink.held.as_slice() == wanted.2 && sink.faults == wanted.3
 }
 
-fn written_so(sink: &mut MemorySink, wanted: &[Writes]) -> bool {
-    for row in wanted {
+fn all_taken_so(sink: &mut MemorySink) -> bool {
+    for row in WRITES {
         if !takes_so(sink, *row) {
             return false;
         }
@@ -78,7 +82,7 @@ fn a_sink_in_memory_takes_pieces_while_there_is_room(rt: HostRuntime) -> Result<
     let mut sink = MemorySink::with_room(rt.alloc(), 4_194_304, 3)?;
     sink.room = 5;
     sink.fails = Vec::from_slice(rt.alloc(), &[2])?;
-    assert!(rt; written_so(&mut sink, WRITES));
+    assert!(rt; all_taken_so(&mut sink));
     Ok(())
 }
 

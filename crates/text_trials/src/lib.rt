@@ -14,4 +14,6 @@ mod replays;
 #[cfg(test)]
 mod scripts;
 #[cfg(test)]
+mod tables;
+#[cfg(test)]
 mod words;
