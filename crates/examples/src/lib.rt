@@ -51,6 +51,3 @@ fn take_seat(book: &mut PlainCells, seat: u64, guest: u64)
         Err(_) => unreachable!(),
     }
 }
-
-#[cfg(test)]
-mod tests;

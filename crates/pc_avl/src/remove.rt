@@ -15,7 +15,7 @@ use pc_model::{Call, Field, Reply, Settle, Side};
 use pc_plan::{Above, Change, Plan, Step, To, Told, Turn, Walk, leads_back, node_of};
 
 /// The node that leaves.
-#[derive(Clone, Copy, Debug, PartialEq, Eq)]
+#[derive(Clone, Copy)]
 pub enum Leaving {
     /// The node with the key.
     Target,
@@ -25,7 +25,7 @@ pub enum Leaving {
 
 /// The child that takes the place of the node that leaves: the version that it was visited at, and the
 /// parent that it had.
-#[derive(Clone, Copy, Debug, PartialEq, Eq)]
+#[derive(Clone, Copy)]
 pub struct Heir {
     /// The node.
     pub node: u32,
@@ -49,7 +49,7 @@ impl Heir {
 }
 
 /// Where a remove is: on its walk, at its end, or what it waits for.
-#[derive(Clone, Copy, Debug, PartialEq, Eq)]
+#[derive(Clone, Copy)]
 pub enum RemovePhase {
     /// On its walk.
     Walking,
@@ -91,7 +91,7 @@ pub enum RemovePhase {
 
 /// A node on the way to the successor, or the successor: the version that it was visited at, the node
 /// above it with its key, and the key and the value that it was told of it.
-#[derive(Clone, Copy, Debug, PartialEq, Eq)]
+#[derive(Clone, Copy)]
 pub struct Next {
     /// The node.
     pub node: u32,
@@ -109,7 +109,7 @@ pub struct Next {
 
 /// The plan of a remove. The walk stays at the node with the key; on its way it keeps the key of the node
 /// above the one that it has come to.
-#[derive(Debug, Drop)]
+#[derive(Drop)]
 pub struct AvlRemove {
     walk: Walk,
     above_key: u64,

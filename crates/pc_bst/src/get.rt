@@ -7,7 +7,7 @@ use pc_model::{Call, Field, Reply, Settle};
 use pc_plan::{Change, Plan, Step, Told, Turn, Walk};
 
 /// Where a get is.
-#[derive(Clone, Copy, Debug, PartialEq, Eq)]
+#[derive(Clone, Copy)]
 pub enum GetPhase {
     /// On its walk.
     Walking,
@@ -18,7 +18,7 @@ pub enum GetPhase {
 }
 
 /// The plan of a get.
-#[derive(Debug, Drop)]
+#[derive(Drop)]
 pub struct BstGet {
     walk: Walk,
     phase: GetPhase,

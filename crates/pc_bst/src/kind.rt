@@ -5,7 +5,7 @@ ghost use Rattle.pc_bst.specs.Kinds.{with_key_charged};
 use pc_plan::{Change, SENTINEL};
 
 /// What the nodes of a search tree carry.
-#[derive(Clone, Copy, Debug, PartialEq, Eq)]
+#[derive(Clone, Copy, PartialEq, Eq)]
 pub enum NodeKind {
     /// A node has no parent and no height.
     Plain,

@@ -9,7 +9,7 @@ use pc_plan::{Change, Plan, Told, Turn};
 use std::marker::Model;
 
 /// The plan of a put.
-#[derive(Debug, Drop)]
+#[derive(Drop)]
 pub struct BstPut {
     put: TreePut,
 }

@@ -12,7 +12,7 @@ use pc_model::{Call, Field, Reply, Settle, Side};
 use pc_plan::{Above, Change, Plan, Step, To, Told, Turn, Walk, leads_back, node_of};
 
 /// Where a remove is: on its walk, at its end, or what it waits for.
-#[derive(Clone, Copy, Debug, PartialEq, Eq)]
+#[derive(Clone, Copy)]
 pub enum RemovePhase {
     /// On its walk.
     Walking,
@@ -38,7 +38,7 @@ pub enum RemovePhase {
 
 /// A node on the way to the successor, or the successor: the version that it was visited at, the node
 /// above it, and the key and the value that it was told of it.
-#[derive(Clone, Copy, Debug, PartialEq, Eq)]
+#[derive(Clone, Copy)]
 pub struct Next {
     pub node: u32,
     pub version: u64,
@@ -48,7 +48,7 @@ pub struct Next {
 }
 
 /// The plan of a remove. The walk stays at the node with the key.
-#[derive(Clone, Copy, Debug)]
+#[derive(Clone, Copy)]
 pub struct BstRemove {
     phase: RemovePhase,
     walk: Walk,

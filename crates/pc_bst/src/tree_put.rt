@@ -10,7 +10,7 @@ use pc_model::{Field, Reply, Side};
 use pc_plan::{Change, Fresh, Step, To, Told, Turn, Walk};
 
 /// Where a put is.
-#[derive(Clone, Copy, Debug, PartialEq, Eq)]
+#[derive(Clone, Copy)]
 pub enum PutPhase {
     /// On its walk.
     Walking,
@@ -23,7 +23,7 @@ pub enum PutPhase {
 /// A put into a tree of one kind. On its way it keeps the key of the node above the one that it has come to;
 /// where the walk has ended that is the node that a leaf hangs below. The phase comes first: at the end, before
 /// padding, the machine asks for it anew at each turn.
-#[derive(Clone, Copy, Debug)]
+#[derive(Clone, Copy)]
 pub struct TreePut {
     phase: PutPhase,
     kind: NodeKind,

@@ -15,7 +15,7 @@ pub const SIZE: usize = 8192;
 pub const DIGITS: usize = 20;
 
 /// Text that waits to be sent to a sink. In contracts it is the list of its bytes.
-#[derive(Debug, Drop)]
+#[derive(Drop)]
 pub struct Chunk {
     bytes: [u8; SIZE],
     used: usize,

@@ -16,7 +16,7 @@ use std::marker::Model;
 /// A source over bytes that it owns. A read gives at most `piece` bytes, which is at least 1, and
 /// fails where its number, counted from 1, is listed in `fails`. The counts stand still at their
 /// last value.
-#[derive(Debug, Drop)]
+#[derive(Drop)]
 pub struct MemorySource {
     /// All the bytes.
     pub bytes: Vec<u8>,
@@ -77,7 +77,7 @@ impl Source for MemorySource {
 /// takes none. It takes at most `piece` bytes a write, which is at least 1, and fails where the
 /// write's number, counted from 1, is listed in `fails`, or where it has bytes to take and is full.
 /// The counts stand still at their last value.
-#[derive(Debug, Drop)]
+#[derive(Drop)]
 pub struct MemorySink {
     /// The bytes that were taken.
     pub held: Vec<u8>,

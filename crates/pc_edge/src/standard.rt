@@ -10,7 +10,7 @@ use std::io::{Read, Write};
 
 /// A source over a reader of the standard library. Each error of the reader is a fault, an
 /// interrupted read too: whoever wants it tried again reads again.
-#[derive(Debug, Drop)]
+#[derive(Drop)]
 pub struct StdSource<R> {
     /// The reader.
     pub inner: R,
@@ -36,7 +36,7 @@ impl<R: Read> Source for StdSource<R> {
 
 /// A sink over a writer of the standard library. Each error of the writer is a fault, an interrupted
 /// write too, and so is a write that takes nothing of a piece that isn't empty.
-#[derive(Debug, Drop)]
+#[derive(Drop)]
 pub struct StdSink<W> {
     /// The writer.
     pub inner: W,
@@ -62,7 +62,7 @@ impl<W: Write> Sink for StdSink<W> {
 
 /// A source over borrowed bytes that gives as much as fits at each read and never fails: its count
 /// of faults is the constant 0.
-#[derive(Debug, Drop)]
+#[derive(Drop)]
 pub struct NeverFails<'a> {
     /// All the bytes.
     pub bytes: &'a [u8],
@@ -92,7 +92,7 @@ impl<'a> Source for NeverFails<'a> {
 }
 
 /// A gate that does nothing.
-#[derive(Clone, Copy, Debug)]
+#[derive(Clone, Copy)]
 pub struct OpenGate;
 
 impl Gate for OpenGate {

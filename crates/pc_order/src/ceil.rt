@@ -8,7 +8,7 @@ use pc_plan::{Change, Plan, Told, Turn};
 use std::marker::Model;
 
 /// The plan of a ceil.
-#[derive(Debug, Drop)]
+#[derive(Drop)]
 pub struct CeilPlan {
     search: Search,
 }

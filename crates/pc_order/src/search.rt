@@ -11,7 +11,7 @@ use pc_model::{Field, Reply, Side};
 use pc_plan::{Step, Told, Turn, Walk};
 
 /// Where a search is.
-#[derive(Clone, Copy, Debug, PartialEq, Eq)]
+#[derive(Clone, Copy)]
 pub enum SearchPhase {
     /// On its walk.
     Walking,
@@ -22,7 +22,7 @@ pub enum SearchPhase {
 }
 
 /// A search on one side of a key.
-#[derive(Debug, Drop)]
+#[derive(Drop)]
 pub struct Search {
     /// The walk to the key.
     pub walk: Walk,

@@ -12,7 +12,7 @@ use pc_model::{Field, Reply};
 use pc_plan::{Change, Plan, Told, Turn};
 
 /// How a plan ends.
-#[derive(Clone, Copy, Debug)]
+#[derive(Clone, Copy)]
 enum End {
     /// It wrote an exchange.
     Exchange,

@@ -6,7 +6,7 @@ use pc_model::{Field, Reply};
 use std::marker::Model;
 
 /// What a word gets: a number, or the fresh node's own number.
-#[derive(Clone, Copy, Debug, PartialEq, Eq)]
+#[derive(Clone, Copy, PartialEq, Eq)]
 pub enum To {
     /// This number.
     Number(u64),
@@ -15,7 +15,7 @@ pub enum To {
 }
 
 /// A word to change.
-#[derive(Clone, Copy, Debug, PartialEq, Eq)]
+#[derive(Clone, Copy, PartialEq, Eq)]
 pub struct Add {
     /// A node that was visited.
     pub node: u32,
@@ -28,7 +28,7 @@ pub struct Add {
 }
 
 /// A node that the exchange adds. Its links are 0.
-#[derive(Clone, Copy, Debug, PartialEq, Eq)]
+#[derive(Clone, Copy, PartialEq, Eq)]
 pub struct Fresh {
     /// The key.
     pub key: u64,

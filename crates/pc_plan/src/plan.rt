@@ -26,7 +26,7 @@ pub enum Ask {
 }
 
 /// What a plan asks next, where an exchange stands in the change that was lent to it.
-#[derive(Clone, Copy, Debug, PartialEq, Eq)]
+#[derive(Clone, Copy, PartialEq, Eq)]
 pub enum Turn {
     /// To visit a node: its version is told.
     Visit(u32),
@@ -39,7 +39,7 @@ pub enum Turn {
 }
 
 /// What a plan is told.
-#[derive(Clone, Copy, Debug, PartialEq, Eq)]
+#[derive(Clone, Copy)]
 pub enum Told {
     /// To begin.
     Begin,

@@ -27,7 +27,7 @@ fn side_toward(key: u64, of_node: u64) -> Side
 }
 
 /// A node that was left by one of its links: the version that it was visited at, and the side.
-#[derive(Clone, Copy, Debug, PartialEq, Eq)]
+#[derive(Clone, Copy)]
 pub struct Above {
     /// The node.
     pub node: u32,
@@ -38,7 +38,7 @@ pub struct Above {
 }
 
 /// What a walk waits for.
-#[derive(Clone, Copy, Debug, PartialEq, Eq)]
+#[derive(Clone, Copy)]
 pub enum Awaited {
     /// To be told to begin.
     Begin,
@@ -53,7 +53,7 @@ pub enum Awaited {
 }
 
 /// A walk to a key: the node that it has come to, with the version that it was told, and the node above.
-#[derive(Clone, Copy, Debug, PartialEq, Eq)]
+#[derive(Clone, Copy)]
 pub struct Walk {
     /// The key that it walks to.
     pub key: u64,
@@ -68,7 +68,7 @@ pub struct Walk {
 }
 
 /// What a walk does next.
-#[derive(Clone, Copy, Debug, PartialEq, Eq)]
+#[derive(Clone, Copy, PartialEq, Eq)]
 pub enum Step {
     /// It visits this node.
     Visit(u32),

@@ -13,7 +13,7 @@ use crate::words::{Arguments, cut_arguments, first_word};
 use pc_model::Call;
 
 /// The words that begin a line.
-#[derive(Clone, Copy, Debug, PartialEq, Eq)]
+#[derive(Clone, Copy)]
 pub enum Keyword {
     Client,
     Put,
@@ -24,7 +24,7 @@ pub enum Keyword {
 }
 
 /// What a line of a script is.
-#[derive(Clone, Copy, Debug, PartialEq, Eq)]
+#[derive(Clone, Copy)]
 pub enum LineClass {
     /// There is nothing in it, or a comment.
     Skip,

@@ -1,6 +1,7 @@
 //! The plans of the plain tree as they are told a small tree by hand. Below the sentinel, node 1 at version 6,
 //! hangs node 2 at version 4 with key 10 and value 100.
-use crate::told::{Begun, Case, Exchange, Row, is_as_told};
+use crate::tables::all_hold;
+use crate::told::{Begun, Case, Exchange, Row, first_told_otherwise};
 use pc_bst::{
     BstGet, BstPut, plans_charge_nothing, plans_end_as_their_calls_do, plans_stand_for_their_calls,
 };
@@ -239,11 +240,10 @@ const LIFTS: &[Case] = &[
 
 #[test]
 fn plans_of_the_plain_tree_ask_as_the_tables_say(rt: HostRuntime) {
-    for cases in [ANSWERS, PUTS, UNLINKS, LIFTS] {
-        for (i, case) in cases.iter().enumerate() {
-            assert!(rt; is_as_told(*case), "case {i}");
-        }
-    }
+    all_hold(&rt, first_told_otherwise(ANSWERS));
+    all_hold(&rt, first_told_otherwise(PUTS));
+    all_hold(&rt, first_told_otherwise(UNLINKS));
+    all_hold(&rt, first_told_otherwise(LIFTS));
 }
 
 #[test]

@@ -42,18 +42,29 @@ fn words_and_charges_stand_in_their_order(rt: HostRuntime) {
     assert!(rt; lists && rest && marked);
 }
 
+// Whether there is room for 24 words.
+fn has_room_for_words(change: &mut Change) -> bool {
+    for _ in 0..24 {
+        if change.adds().len() >= 24 {
+            return false;
+        }
+        change.raise(2, 4);
+    }
+    change.adds().len() == 24
+}
+
+fn has_room_for_charges(change: &mut Change) -> bool {
+    for key in 0..4 {
+        if change.charged().len() >= 4 {
+            return false;
+        }
+        change.charge(key);
+    }
+    change.charged() == [0, 1, 2, 3].as_slice()
+}
+
 #[test]
 fn a_change_holds_24_words_and_4_charges(rt: HostRuntime) {
     let mut change = Change::new(Reply::None);
-    for _ in 0..24 {
-        let room = change.adds().len() < 24;
-        assert!(rt; room);
-        change.raise(2, 4);
-    }
-    for key in 0..4 {
-        let room = change.charged().len() < 4;
-        assert!(rt; room);
-        change.charge(key);
-    }
-    assert!(rt; change.adds().len() == 24 && change.charged() == [0, 1, 2, 3].as_slice());
+    assert!(rt; has_room_for_words(&mut change) && has_room_for_charges(&mut change));
 }

@@ -14,6 +14,10 @@ mod order_steps;
 #[cfg(test)]
 mod plain_runs;
 #[cfg(test)]
+mod reservations;
+#[cfg(test)]
+mod tables;
+#[cfg(test)]
 mod told;
 #[cfg(test)]
 mod walks;

@@ -37,7 +37,17 @@ pub struct Exchange {
 /// A plan, what it is told part by part, and the exchange that it writes, where it asks for one at last.
 pub type Case = (Begun, &'static [&'static [Row]], Option<Exchange>);
 
-pub fn is_as_told(case: Case) -> bool {
+/// The first case of a table in which the plan asks otherwise, or writes another exchange.
+pub fn first_told_otherwise(cases: &[Case]) -> Option<usize> {
+    for (i, case) in cases.iter().enumerate() {
+        if !is_as_told(*case) {
+            return Some(i);
+        }
+    }
+    None
+}
+
+fn is_as_told(case: Case) -> bool {
     let (begun, parts, exchange) = case;
     match begun {
         Begun::BstGet(key) => ends_so(BstGet::begin(u64::from(key)), parts, exchange),
