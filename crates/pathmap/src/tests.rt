@@ -4,9 +4,9 @@ ghost use Rattle.std.specs.Prelude.{◌≤◌};
 use super::*;
 use pc_edge::{Gate, MemorySink, MemorySource};
 use pc_text::MOST_BYTES;
+use std::process::Abort;
 use std::sync::Wait;
 use std::sync::atomic::{AtomicU64, Ordering};
-use std::test::Fail;
 use std::thread::Threads;
 
 /// A gate that counts its calls.
@@ -64,133 +64,201 @@ fn run<R: Threads + Wait + Sync>(
     Ok((outcome.status, source.calls, calls))
 }
 
-#[test]
-fn each_input_has_its_status_and_output(rt: HostRuntime) -> Result<(), Fail> {
-    let alloc = rt.alloc();
-    let rows: [(&str, u8, &str); 21] = [
-        ("", 0, "left 0\nend\n"),
-        (
-            "put 5 50\nget 5\n",
-            0,
-            "1 1.1 put 5 50 = new\n2 1.2 get 5 = 50\nleft 1\n5 50\nend\n",
-        ),
-        (
-            "put 5 1\nput 5 2\n",
-            0,
-            "1 1.1 put 5 1 = new\n2 1.2 put 5 2 = was 1\nleft 1\n5 2\nend\n",
-        ),
-        (
-            "put 0 0\nput 999999999999999999 999999999999999999\n",
-            0,
-            "1 1.1 put 0 0 = new\n2 1.2 put 999999999999999999 999999999999999999 = new\nleft 2\n\
-             0 0\n999999999999999999 999999999999999999\nend\n",
-        ),
-        (
-            "put 3 30\nput 1 10\nput 2 20\nget 2\nget 4\n",
-            0,
-            "1 1.1 put 3 30 = new\n2 1.2 put 1 10 = new\n3 1.3 put 2 20 = new\n4 1.4 get 2 = 20\n\
-             5 1.5 get 4 = none\nleft 3\n1 10\n2 20\n3 30\nend\n",
-        ),
-        (
-            "get 5\nremove 5\n",
-            0,
-            "1 1.1 get 5 = none\n2 1.2 remove 5 = none\nleft 0\nend\n",
-        ),
-        // The successor is the right child itself.
-        (
-            "put 2 20\nput 1 10\nput 3 30\nremove 2\n",
-            0,
-            "1 1.1 put 2 20 = new\n2 1.2 put 1 10 = new\n3 1.3 put 3 30 = new\n4 1.4 remove 2 = 20\n\
-             left 2\n1 10\n3 30\nend\n",
-        ),
-        // The successor lies deeper and has a right child.
-        (
-            "put 10 10\nput 5 5\nput 20 20\nput 15 15\nput 25 25\nput 17 17\nremove 10\n",
-            0,
-            "1 1.1 put 10 10 = new\n2 1.2 put 5 5 = new\n3 1.3 put 20 20 = new\n\
-             4 1.4 put 15 15 = new\n5 1.5 put 25 25 = new\n6 1.6 put 17 17 = new\n\
-             7 1.7 remove 10 = 10\nleft 5\n5 5\n15 15\n17 17\n20 20\n25 25\nend\n",
-        ),
-        (
-            "put 5 50\nput 9 90\nceil 7\nfloor 7\nceil 10\nfloor 4\nceil 5\nfloor 9\n",
-            0,
-            "1 1.1 put 5 50 = new\n2 1.2 put 9 90 = new\n3 1.3 ceil 7 = 9 90\n4 1.4 floor 7 = 5 50\n\
-             5 1.5 ceil 10 = none\n6 1.6 floor 4 = none\n7 1.7 ceil 5 = 5 50\n8 1.8 floor 9 = 9 90\n\
-             left 2\n5 50\n9 90\nend\n",
-        ),
-        (
-            "put 1 1\nremove 1\nput 1 2\nremove 1\nput 1 3\n",
-            0,
-            "1 1.1 put 1 1 = new\n2 1.2 remove 1 = 1\n3 1.3 put 1 2 = new\n4 1.4 remove 1 = 2\n\
-             5 1.5 put 1 3 = new\nleft 1\n1 3\nend\n",
-        ),
-        // Comments, blanks, carriage returns, zeros in front, and a last line without its end.
-        (
-            "# Zürich\r\n\r\n  put\t007 1\r\nget 7",
-            0,
-            "1 1.1 put 7 1 = new\n2 1.2 get 7 = 1\nleft 1\n7 1\nend\n",
-        ),
-        ("client 1\nget 5", 0, "1 1.1 get 5 = none\nleft 0\nend\n"),
-        (
-            "put 1000000000000000000 1\n",
-            3,
-            "fault line 1 bad number\n",
-        ),
-        ("get 1\nGet 1\n", 3, "fault line 2 unknown word\n"),
-        ("put 1", 3, "fault line 1 word count\n"),
-        ("get +1\n", 3, "fault line 1 bad number\n"),
-        ("foo\0\n", 3, "fault line 1 bad byte\n"),
-        ("client 0\n", 3, "fault line 1 bad number\n"),
-        ("client 33\n", 3, "fault line 1 too many clients\n"),
-        // Scripts of more than one client are not run yet; a bad line comes first.
-        ("client 2\nget 1\n", 3, "fault not built\n"),
-        ("client 2\nget 1\nget\n", 3, "fault line 3 word count\n"),
-    ];
-    for (input, status, output) in rows {
-        let mut source = source_of(
-            Vec::from_slice(alloc, input.as_bytes())?,
-            1000,
-            Vec::new(alloc),
-        );
-        let mut sink = MemorySink::with_room(alloc, 1000, 1000).expect(&rt, "ample memory");
-        let ended = run(&rt, alloc, &["pathmap"], &mut source, &mut sink)?;
-        // One read gives all of it and the next one none, or else the first one none; then there is no other.
-        let reads = if input.is_empty() { 1 } else { 2 };
-        assert_eq!(rt;
-            (ended, sink.held.as_slice()),
-            ((status, reads, 0), output.as_bytes()),
-            "{input}"
-        );
-    }
-    Ok(())
+/// How a run ends: its status, how many reads there were, and what is written, all of it or its first part.
+#[derive(Clone, Copy)]
+struct Ending<'a> {
+    status: u8,
+    reads: u64,
+    text: &'a [u8],
+    is_whole: bool,
 }
 
-#[test]
-fn faulty_words_reads_and_writes_end_the_run(rt: HostRuntime) -> Result<(), Fail> {
-    let alloc = rt.alloc();
-    let one: &[&str] = &["pathmap"];
-    let two: &[&str] = &["pathmap", "--tree"];
-    // The words, the read that fails, the sink's room, the status, the reads that there were, and the output.
-    let rows: [(&[&str], u64, usize, u8, u64, &str); 7] = [
-        (two, 0, 1000, 2, 0, "fault usage\n"),
-        (&[], 0, 1000, 2, 0, "fault usage\n"),
-        (two, 0, 3, 2, 0, "fau"),
-        (one, 2, 1000, 4, 2, "fault read\n"),
-        (one, 6, 1000, 4, 6, "fault read\n"),
-        (one, 6, 0, 4, 6, ""),
-        (one, 0, 0, 5, 6, ""),
-    ];
-    for (words, fails, room, status, reads, output) in rows {
-        let fails = Vec::from_slice(alloc, &[fails])?;
-        let mut source = source_of(Vec::from_slice(alloc, b"get 5")?, 1, fails);
-        let mut sink = MemorySink::with_room(alloc, room, 1).expect(&rt, "ample memory");
-        let ended = run(&rt, alloc, words, &mut source, &mut sink)?;
-        assert_eq!(rt;
-            (ended, sink.held.as_slice()),
-            ((status, reads, 0), output.as_bytes())
-        );
+/// A sink's room, and how many bytes a write takes.
+type Room = (usize, usize);
+
+// Whether a run ends so, without a call of the gate.
+fn ends_so<R: Threads + Wait + Sync>(
+    rt: &R,
+    alloc: Global,
+    words: &[&str],
+    mut source: MemorySource,
+    room: Room,
+    ending: Ending,
+) -> bool {
+    match MemorySink::with_room(alloc, room.0, room.1.max(1)) {
+        Ok(mut sink) => {
+            let ended = run(rt, alloc, words, &mut source, &mut sink);
+            ended == Ok((ending.status, ending.reads, 0)) && is_text(&sink.held, ending)
+        }
+        Err(_) => false,
     }
-    Ok(())
+}
+
+fn is_text(held: &[u8], ending: Ending) -> bool {
+    if ending.is_whole {
+        held == ending.text
+    } else {
+        held.starts_with(ending.text)
+    }
+}
+
+// Stops a test where a row of its table is not so, and names the row.
+fn all_hold(rt: &impl Abort, wrong: Option<usize>) {
+    assert_eq!(rt; wrong, None);
+}
+
+// Each input with its status and its output.
+const INPUTS: &[(&str, u8, &str)] = &[
+    ("", 0, "left 0\nend\n"),
+    (
+        "put 5 50\nget 5\n",
+        0,
+        "1 1.1 put 5 50 = new\n2 1.2 get 5 = 50\nleft 1\n5 50\nend\n",
+    ),
+    (
+        "put 5 1\nput 5 2\n",
+        0,
+        "1 1.1 put 5 1 = new\n2 1.2 put 5 2 = was 1\nleft 1\n5 2\nend\n",
+    ),
+    (
+        "put 0 0\nput 999999999999999999 999999999999999999\n",
+        0,
+        "1 1.1 put 0 0 = new\n2 1.2 put 999999999999999999 999999999999999999 = new\nleft 2\n\
+         0 0\n999999999999999999 999999999999999999\nend\n",
+    ),
+    (
+        "put 3 30\nput 1 10\nput 2 20\nget 2\nget 4\n",
+        0,
+        "1 1.1 put 3 30 = new\n2 1.2 put 1 10 = new\n3 1.3 put 2 20 = new\n4 1.4 get 2 = 20\n\
+         5 1.5 get 4 = none\nleft 3\n1 10\n2 20\n3 30\nend\n",
+    ),
+    (
+        "get 5\nremove 5\n",
+        0,
+        "1 1.1 get 5 = none\n2 1.2 remove 5 = none\nleft 0\nend\n",
+    ),
+    // The successor is the right child itself.
+    (
+        "put 2 20\nput 1 10\nput 3 30\nremove 2\n",
+        0,
+        "1 1.1 put 2 20 = new\n2 1.2 put 1 10 = new\n3 1.3 put 3 30 = new\n4 1.4 remove 2 = 20\n\
+         left 2\n1 10\n3 30\nend\n",
+    ),
+    // The successor lies deeper and has a right child.
+    (
+        "put 10 10\nput 5 5\nput 20 20\nput 15 15\nput 25 25\nput 17 17\nremove 10\n",
+        0,
+        "1 1.1 put 10 10 = new\n2 1.2 put 5 5 = new\n3 1.3 put 20 20 = new\n\
+         4 1.4 put 15 15 = new\n5 1.5 put 25 25 = new\n6 1.6 put 17 17 = new\n\
+         7 1.7 remove 10 = 10\nleft 5\n5 5\n15 15\n17 17\n20 20\n25 25\nend\n",
+    ),
+    (
+        "put 5 50\nput 9 90\nceil 7\nfloor 7\nceil 10\nfloor 4\nceil 5\nfloor 9\n",
+        0,
+        "1 1.1 put 5 50 = new\n2 1.2 put 9 90 = new\n3 1.3 ceil 7 = 9 90\n4 1.4 floor 7 = 5 50\n\
+         5 1.5 ceil 10 = none\n6 1.6 floor 4 = none\n7 1.7 ceil 5 = 5 50\n8 1.8 floor 9 = 9 90\n\
+         left 2\n5 50\n9 90\nend\n",
+    ),
+    (
+        "put 1 1\nremove 1\nput 1 2\nremove 1\nput 1 3\n",
+        0,
+        "1 1.1 put 1 1 = new\n2 1.2 remove 1 = 1\n3 1.3 put 1 2 = new\n4 1.4 remove 1 = 2\n\
+         5 1.5 put 1 3 = new\nleft 1\n1 3\nend\n",
+    ),
+    // Comments, blanks, carriage returns, zeros in front, and a last line without its end.
+    (
+        "# Zürich\r\n\r\n  put\t007 1\r\nget 7",
+        0,
+        "1 1.1 put 7 1 = new\n2 1.2 get 7 = 1\nleft 1\n7 1\nend\n",
+    ),
+    ("client 1\nget 5", 0, "1 1.1 get 5 = none\nleft 0\nend\n"),
+    (
+        "put 1000000000000000000 1\n",
+        3,
+        "fault line 1 bad number\n",
+    ),
+    ("get 1\nGet 1\n", 3, "fault line 2 unknown word\n"),
+    ("put 1", 3, "fault line 1 word count\n"),
+    ("get +1\n", 3, "fault line 1 bad number\n"),
+    ("foo\0\n", 3, "fault line 1 bad byte\n"),
+    ("client 0\n", 3, "fault line 1 bad number\n"),
+    ("client 33\n", 3, "fault line 1 too many clients\n"),
+    // Scripts of more than one client are not run yet; a bad line comes first.
+    ("client 2\nget 1\n", 3, "fault not built\n"),
+    ("client 2\nget 1\nget\n", 3, "fault line 3 word count\n"),
+];
+
+// One read gives all of an input and the next one none, or else the first one none; then there is no other.
+fn input_ends_so<R: Threads + Wait + Sync>(
+    rt: &R,
+    alloc: Global,
+    input: &str,
+    status: u8,
+    output: &str,
+) -> bool {
+    let ending = Ending {
+        status,
+        reads: if input.len() == 0 { 1 } else { 2 },
+        text: output.as_bytes(),
+        is_whole: true,
+    };
+    match Vec::from_slice(alloc, input.as_bytes()) {
+        Ok(bytes) => {
+            let source = source_of(bytes, 1000, Vec::new(alloc));
+            ends_so(rt, alloc, &["pathmap"], source, (1000, 1000), ending)
+        }
+        Err(_) => false,
+    }
+}
+
+fn first_other_input<R: Threads + Wait + Sync>(rt: &R, alloc: Global) -> Option<usize> {
+    for (i, (input, status, output)) in INPUTS.iter().enumerate() {
+        if !input_ends_so(rt, alloc, input, *status, output) {
+            return Some(i);
+        }
+    }
+    None
+}
+
+/// The words, the read that fails, the sink's room, the status, the reads that there were, and the output.
+type Faulty = (&'static [&'static str], u64, usize, u8, u64, &'static str);
+
+const FAULTY: &[Faulty] = &[
+    (&["pathmap", "--tree"], 0, 1000, 2, 0, "fault usage\n"),
+    (&[], 0, 1000, 2, 0, "fault usage\n"),
+    (&["pathmap", "--tree"], 0, 3, 2, 0, "fau"),
+    (&["pathmap"], 2, 1000, 4, 2, "fault read\n"),
+    (&["pathmap"], 6, 1000, 4, 6, "fault read\n"),
+    (&["pathmap"], 6, 0, 4, 6, ""),
+    (&["pathmap"], 0, 0, 5, 6, ""),
+];
+
+fn faulty_ends_so<R: Threads + Wait + Sync>(rt: &R, alloc: Global, row: Faulty) -> bool {
+    let ending = Ending {
+        status: row.3,
+        reads: row.4,
+        text: row.5.as_bytes(),
+        is_whole: true,
+    };
+    match (
+        Vec::from_slice(alloc, b"get 5"),
+        Vec::from_slice(alloc, &[row.1]),
+    ) {
+        (Ok(bytes), Ok(fails)) => {
+            let source = source_of(bytes, 1, fails);
+            ends_so(rt, alloc, row.0, source, (row.2, 1), ending)
+        }
+        _ => false,
+    }
+}
+
+fn first_other_fault<R: Threads + Wait + Sync>(rt: &R, alloc: Global) -> Option<usize> {
+    for (i, row) in FAULTY.iter().enumerate() {
+        if !faulty_ends_so(rt, alloc, *row) {
+            return Some(i);
+        }
+    }
+    None
 }
 
 // So many lines that put, at keys that are all different, in no order.
@@ -217,38 +285,89 @@ fn spaces(alloc: Global, count: usize) -> Result<Vec<u8>, AllocError> {
     vec![in alloc; b' '; count]
 }
 
-// The most bytes, commands and pairs find their memory; one byte more, and one command more, are refused.
-#[test]
-fn inputs_of_full_size_are_run(rt: HostRuntime) -> Result<(), Fail> {
-    let alloc = rt.alloc();
-    let rows: [(Vec<u8>, u8, u64, &[u8]); 5] = [
-        (spaces(alloc, MOST_BYTES)?, 0, 65, b"left 0\nend\n"),
-        (
-            spaces(alloc, MOST_BYTES + 1)?,
-            6,
-            65,
-            b"fault input too large\n",
-        ),
-        (gets(alloc, 60_000)?, 0, 7, b"1 1.1 get 1 = none\n"),
-        (
-            gets(alloc, 60_001)?,
-            3,
-            7,
-            b"fault line 60001 too many lines\n",
-        ),
-        (puts(alloc, 60_000)?, 0, 12, b"1 1.1 put 0 1 = new\n"),
-    ];
-    for (bytes, status, reads, front) in rows {
-        let mut source = source_of(bytes, 1_000_000, Vec::new(alloc));
-        let mut sink = MemorySink::with_room(alloc, 3_000_000, 1_000_000).expect(
-            &rt,
-            "ample memory",
-        );
-        let ended = run(&rt, alloc, &["pathmap"], &mut source, &mut sink)?;
-        assert_eq!(rt;
-            (ended, sink.held.starts_with(front)),
-            ((status, reads, 0), true)
-        );
+/// What an input is made of.
+#[derive(Clone, Copy)]
+enum Made {
+    Spaces,
+    Gets,
+    Puts,
+}
+
+fn bytes_of(alloc: Global, of: Made, count: usize) -> Result<Vec<u8>, AllocError> {
+    match of {
+        Made::Spaces => spaces(alloc, count),
+        Made::Gets => gets(alloc, count),
+        Made::Puts => puts(alloc, count),
     }
-    Ok(())
+}
+
+/// What is read, how many times, the status, the reads that there were, and the first part of the output.
+type Large = (Made, usize, u8, u64, &'static [u8]);
+
+// The most bytes, commands and pairs find their memory; one byte more, and one command more, are refused.
+const LARGE: &[Large] = &[
+    (Made::Spaces, MOST_BYTES, 0, 65, b"left 0\nend\n"),
+    (
+        Made::Spaces,
+        MOST_BYTES + 1,
+        6,
+        65,
+        b"fault input too large\n",
+    ),
+    (Made::Gets, 60_000, 0, 7, b"1 1.1 get 1 = none\n"),
+    (
+        Made::Gets,
+        60_001,
+        3,
+        7,
+        b"fault line 60001 too many lines\n",
+    ),
+    (Made::Puts, 60_000, 0, 12, b"1 1.1 put 0 1 = new\n"),
+];
+
+fn large_ends_so<R: Threads + Wait + Sync>(rt: &R, alloc: Global, row: Large) -> bool {
+    let ending = Ending {
+        status: row.2,
+        reads: row.3,
+        text: row.4,
+        is_whole: false,
+    };
+    match bytes_of(alloc, row.0, row.1) {
+        Ok(bytes) => {
+            let source = source_of(bytes, 1_000_000, Vec::new(alloc));
+            ends_so(
+                rt,
+                alloc,
+                &["pathmap"],
+                source,
+                (3_000_000, 1_000_000),
+                ending,
+            )
+        }
+        Err(_) => false,
+    }
+}
+
+fn first_other_large_input<R: Threads + Wait + Sync>(rt: &R, alloc: Global) -> Option<usize> {
+    for (i, row) in LARGE.iter().enumerate() {
+        if !large_ends_so(rt, alloc, *row) {
+            return Some(i);
+        }
+    }
+    None
+}
+
+#[test]
+fn each_input_has_its_status_and_output(rt: HostRuntime) {
+    all_hold(&rt, first_other_input(&rt, rt.alloc()));
+}
+
+#[test]
+fn faulty_words_reads_and_writes_end_the_run(rt: HostRuntime) {
+    all_hold(&rt, first_other_fault(&rt, rt.alloc()));
+}
+
+#[test]
+fn inputs_of_full_size_are_run(rt: HostRuntime) {
+    all_hold(&rt, first_other_large_input(&rt, rt.alloc()));
 }
