@@ -1,6 +1,7 @@
 -- Reading turn by turn: what was taken so far, and one piece more.
 use Rattle.std.proofs.Common.{◌≡◌, ℕ, ◌+◌, ◌<◌, ◌≤◌, List, [], ◌++◌, length, take, Option, Some, None, refl, sym}
 use Rattle.std.proofs.Common.{ap, ◌∙◌, subst, append_assoc, arith, length-append}
+use Rattle.std.proofs.Math.Seq.{take-append_seam}
 use Rattle.std.proofs.lemmas.List.{append-nil, length-take-le}
 use Rattle.std.specs.Io.KnownBytes.{Consumes, IsAtEnd}
 use Rattle.pc_text.specs.declared.limits.TheConstants.{MOST_BYTES}
@@ -55,6 +56,11 @@ takes_at_most_more a b c bytes m n taken le t = let few : length t.taken ≤ m =
       few = let e : length (bytes ++ t.taken) ≡ length bytes + length t.taken = length-append bytes t.taken in
           omega arith;
     }
+
+-- a buffer that was written whole holds what was written
+pub written_whole : (written rest : List ℕ) (len : ℕ) → length written ≡ len → take len (written ++ rest) ≡ written
+written_whole written rest len e =
+    ap (λ n. take n (written ++ rest)) (sym e) ∙ take-append_seam written rest
 
 -- what is taken after the bytes that are filled, with these
 pub takes_with_filled : (a b c : Option (List ℕ)) (bytes : List ℕ) (len filled turn m n : ℕ)
