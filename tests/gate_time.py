@@ -1,6 +1,7 @@
 #!/usr/bin/env python3
 """Measures the processor time of the gate: runs `rt ci --anew` (of the crates that are named, and those below them, or
-of all) and prints the seconds, user and system, that each crate's proof, its tests and its edits took.
+of all) and prints the seconds, user and system, that each crate's proof, its tests and its edits took, its lines on
+standard error.
 
 The whole is exact. Its parts are sampled from /proc while the gate runs, and scaled to the whole, so a part of less
 than a second may be missed. Other work on the machine makes each second do less, so the figures rise under load."""
@@ -87,7 +88,9 @@ def main():
     gate = subprocess.Popen(["rt", "ci", "--anew", *sys.argv[1:]], cwd=ROOT, stdout=subprocess.PIPE, text=True)
     sampler = Sampler(gate.pid)
     sampler.start()
-    told = gate.stdout.read().splitlines()
+    told = ""
+    for told in gate.stdout:
+        print(told, end="", file=sys.stderr, flush=True)
     status = gate.wait()
     sampler.is_over = True
     ended = resource.getrusage(resource.RUSAGE_CHILDREN)
@@ -104,7 +107,7 @@ def main():
         print(f"| `{crate}` | {' | '.join(f'{cell:.0f}' for cell in cells)} |")
     cells = [*(sum(row[kind] for row in table.values()) for kind in KINDS), whole]
     print(f"| all | {' | '.join(f'{cell:.0f}' for cell in cells)} |")
-    print(f"{whole / 60:.1f} minutes of processor time, {seen / whole:.0%} of it seen in its part; {told[-1] if told else ''}")
+    print(f"{whole / 60:.1f} minutes of processor time, {seen / whole:.0%} of it seen in its part; {told.strip()}")
     return status
 
 

@@ -1,7 +1,7 @@
 //! The plans of the plain tree as they are told a small tree by hand. Below the sentinel, node 1 at version 6,
 //! hangs node 2 at version 4 with key 10 and value 100.
 use crate::tables::all_hold;
-use crate::told::{Begun, Case, Exchange, Row, first_told_otherwise};
+use crate::told::{Begun, Case, Exchange, Row, first_of_each};
 use pc_bst::{
     BstGet, BstPut, plans_charge_nothing, plans_end_as_their_calls_do, plans_stand_for_their_calls,
 };
@@ -240,10 +240,7 @@ const LIFTS: &[Case] = &[
 
 #[test]
 fn plans_of_the_plain_tree_ask_as_the_tables_say(rt: HostRuntime) {
-    all_hold(&rt, first_told_otherwise(ANSWERS));
-    all_hold(&rt, first_told_otherwise(PUTS));
-    all_hold(&rt, first_told_otherwise(UNLINKS));
-    all_hold(&rt, first_told_otherwise(LIFTS));
+    all_hold(&rt, &first_of_each([ANSWERS, PUTS, UNLINKS, LIFTS]));
 }
 
 #[test]

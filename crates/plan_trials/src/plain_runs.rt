@@ -9,7 +9,6 @@ use pc_bst::{BstGet, BstPut, BstRemove};
 use pc_model::{Memory, Reply};
 use pc_plain::{NoPlainSlot, PlainCells, pairs, run_plan, shape};
 use std::alloc::Global;
-use std::test::Fail;
 
 /// What is called, with small keys and values.
 #[derive(Clone, Copy)]
@@ -175,13 +174,6 @@ fn first_other_run(alloc: Global, runs: &[Run]) -> Option<usize> {
     None
 }
 
-#[test]
-fn calls_are_answered_as_the_sorted_map_answers(rt: HostRuntime) {
-    all_hold(&rt, first_other_run(rt.alloc(), RUNS));
-    all_hold(&rt, first_other_run(rt.alloc(), LIFTS));
-    all_hold(&rt, first_other_run(rt.alloc(), FULL_CELLS));
-}
-
 /// The keys that are put, the one that is removed then, and the shape.
 type Shape = (&'static [u32], u32, &'static [(u32, u64, u32, i64)]);
 
@@ -210,10 +202,22 @@ fn first_other_shape(alloc: Global) -> Option<usize> {
     None
 }
 
+fn is_refusal_shown(alloc: Global) -> bool {
+    match format!(in alloc; "{}", NoPlainSlot { live: 3 }) {
+        Ok(shown) => shown.as_str() == "no slot is free",
+        Err(_) => false,
+    }
+}
+
 #[test]
-fn shapes_are_those_worked_out(rt: HostRuntime) -> Result<(), Fail> {
-    all_hold(&rt, first_other_shape(rt.alloc()));
-    let shown = format!(in rt.alloc(); "{}", NoPlainSlot { live: 3 })?;
-    assert!(rt; shown.as_str() == "no slot is free");
-    Ok(())
+fn runs_answer_as_the_sorted_map_and_leave_its_pairs_and_shapes(rt: HostRuntime) {
+    let alloc = rt.alloc();
+    let wrong = [
+        first_other_run(alloc, RUNS),
+        first_other_run(alloc, LIFTS),
+        first_other_run(alloc, FULL_CELLS),
+        first_other_shape(alloc),
+    ];
+    assert!(rt; is_refusal_shown(alloc));
+    all_hold(&rt, &wrong);
 }

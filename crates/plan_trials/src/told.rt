@@ -47,6 +47,15 @@ pub fn first_told_otherwise(cases: &[Case]) -> Option<usize> {
     None
 }
 
+pub fn first_of_each(tables: [&[Case]; 4]) -> [Option<usize>; 4] {
+    [
+        first_told_otherwise(tables[0]),
+        first_told_otherwise(tables[1]),
+        first_told_otherwise(tables[2]),
+        first_told_otherwise(tables[3]),
+    ]
+}
+
 fn is_as_told(case: Case) -> bool {
     let (begun, parts, exchange) = case;
     match begun {

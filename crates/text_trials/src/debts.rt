@@ -330,10 +330,16 @@ fn first_wrong_front() -> Option<usize> {
     None
 }
 
+fn first_wrong_deeds() -> [Option<usize>; 4] {
+    [
+        first_wrong_deed(ON_SHORT_LISTS),
+        first_wrong_deed(BY_SETTLEMENTS),
+        first_wrong_deed(ON_FULL_LISTS),
+        first_wrong_front(),
+    ]
+}
+
 #[test]
 fn each_deed_leaves_what_the_tables_say(rt: HostRuntime) {
-    all_hold(&rt, first_wrong_deed(ON_SHORT_LISTS));
-    all_hold(&rt, first_wrong_deed(BY_SETTLEMENTS));
-    all_hold(&rt, first_wrong_deed(ON_FULL_LISTS));
-    all_hold(&rt, first_wrong_front());
+    all_hold(&rt, &first_wrong_deeds());
 }

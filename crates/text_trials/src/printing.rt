@@ -266,7 +266,10 @@ fn first_fault_mistold(alloc: Global) -> Option<usize> {
 
 #[test]
 fn runs_and_faults_have_their_texts_or_a_front_of_them(rt: HostRuntime) {
-    all_hold(&rt, first_run_misprinted(rt.alloc()));
-    all_hold(&rt, first_fault_mistold(rt.alloc()));
+    let alloc = rt.alloc();
+    all_hold(
+        &rt,
+        &[first_run_misprinted(alloc), first_fault_mistold(alloc)],
+    );
     printed_run_fixes_history();
 }

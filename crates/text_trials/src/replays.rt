@@ -161,6 +161,6 @@ fn first_wrong_call(alloc: Global) -> Option<usize> {
 
 #[test]
 fn the_first_wrong_reply_is_found(rt: HostRuntime) {
-    all_hold(&rt, first_wrong_list(rt.alloc()));
-    all_hold(&rt, first_wrong_call(rt.alloc()));
+    let alloc = rt.alloc();
+    all_hold(&rt, &[first_wrong_list(alloc), first_wrong_call(alloc)]);
 }

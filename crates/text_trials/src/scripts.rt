@@ -297,10 +297,14 @@ fn is_read_so(alloc: Global, long: Long, wanted: Result<(u32, usize), ScriptFaul
 
 #[test]
 fn scripts_are_read_or_their_first_bad_line_is_told(rt: HostRuntime) {
-    all_hold(&rt, first_script_misread(rt.alloc()));
-    all_hold(&rt, first_fault_mistold(rt.alloc()));
-    // The most commands and the most bytes find their memory, and one command more is refused.
-    all_hold(&rt, first_long_script_misread(rt.alloc()));
+    let alloc = rt.alloc();
+    // Among the long ones the most commands and the most bytes find their memory, and one command more is refused.
+    let wrong = [
+        first_script_misread(alloc),
+        first_fault_mistold(alloc),
+        first_long_script_misread(alloc),
+    ];
+    all_hold(&rt, &wrong);
     empty_input_gives_empty_script();
     written_commands_read_back();
 }
