@@ -383,7 +383,7 @@ module _ (slots : ℕ) (c : Cells) (ps : Pairs) (k : ℕ) (ready : IsReady (tree
       (λ x w t. refl) (λ x w n. refl) (λ x w n f. refl)
       (λ x w y ne. cond-false (y == w.key) (remove_reads (walking x w) ReadingLeft w.node LeftLink)
       (remove_passes (walking x w) w y) (ne_eqb y w.key (λ e. ne (sym e))))
-      (suc (suc (suc (3 * slots + 4))))
+      (suc (suc (suc (3 * slots + 4)))) (λ l r. suc (suc (suc (3 * slots + 4)))) (λ l r. omega arith)
       (λ x q s n l r h is_key e past unseen_l unseen_r.
       let w : Walk = walk_at slots c balanced ps ready.few tree k (below q s) n Choice in
       let node : IsTreeNode balanced slots c q n = h.spelled.1 in

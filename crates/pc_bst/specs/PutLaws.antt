@@ -79,7 +79,7 @@ module _ (kind : NodeKind) (slots : ℕ) (c : Cells) (ps : Pairs) (call : ℕ ×
       (λ x w t. refl) (λ x w n. refl) (λ x w n f. refl)
       (λ x w y ne. cond-false (y == w.key) (put_reads (walking x w) w) (put_passes (walking x w) w y)
       (ne_eqb y w.key (λ e. ne (sym e))))
-      1
+      1 (λ l r. 1) (λ l r. omega arith)
       (λ x q s n l r h is_key e past unseen_l unseen_r.
       let w : Walk = walk_at slots c (kind_of kind) ps ready.few tree k (left_node slots c (kind_of kind) ps ready.few
       tree k q s) n Choice in

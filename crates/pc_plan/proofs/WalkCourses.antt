@@ -73,21 +73,16 @@ module _ (slots : ℕ) (c : Cells) (kind : Kind) (ps : Pairs) (few : slots ≤ 6
       → HoleAt n Right r
   right_of q s n l r h more = right_hole kind slots c ps tree.tree k q (link_of s) n l r tree.rising more h
 
-  -- the turns of a walk below a link, where so many come after it
+  -- the turns of a walk below a link, where so many come after it: six for each node that lies there
   abbrev pub walk_turns : ℕ → Tree → ℕ
   walk_turns after Empty = suc after
-  walk_turns after (Fork n l r) = suc (suc (suc (suc (suc (suc (max (walk_turns after l) (walk_turns after r)))))))
+  walk_turns after (Fork n l r) = suc (suc (suc (suc (suc (suc (walk_turns after l + 6 * size_of r))))))
 
-  walk_turns_few : (after : ℕ) (t : Tree) → walk_turns after t ≤ 6 * size_of t + suc after
-  walk_turns_few after Empty = omega arith
-  walk_turns_few after (Fork n l r) =
-      let a : walk_turns after l ≤ 6 * size_of l + suc after = walk_turns_few after l in
-      let b : walk_turns after r ≤ 6 * size_of r + suc after = walk_turns_few after r in
+  walk_turns_are : (after : ℕ) (t : Tree) → walk_turns after t ≡ 6 * size_of t + suc after
+  walk_turns_are after Empty = omega arith
+  walk_turns_are after (Fork n l r) =
+      let a : walk_turns after l ≡ 6 * size_of l + suc after = walk_turns_are after l in
       omega arith
-
-  walk_turns_some : (after : ℕ) (t : Tree) → after < walk_turns after t
-  walk_turns_some after Empty = omega arith
-  walk_turns_some after (Fork n l r) = let a : after < walk_turns after l = walk_turns_some after l in omega arith
 
   module _ {P D : Type 0} (moves : P → Told → P × Ask) (Wanted : List Event → Ask → Type 0)
       (walking : D → Walk → P) (walked : D → Walk → Step → P × Ask)
@@ -113,7 +108,8 @@ module _ (slots : ℕ) (c : Cells) (kind : Kind) (ps : Pairs) (few : slots ≤ 6
         -- what the plan does at a node whose key it was told, with at most three more reads there
         (at_node : (d : D) (q : ℕ) (s : Side) (n : ℕ) (l r : Tree) (h : HoleAt q s (Fork n l r))
         → Good d q s (Fork n l r) h
-        → (past : List Event) (turns : ℕ) → after ≤ turns → IsUnseen l past → IsUnseen r past
+        → (past : List Event) (turns : ℕ) → 6 * (size_of l + size_of r) + after ≤ turns
+        → IsUnseen l past → IsUnseen r past
         → GoesLeft turns q s n l r h → GoesRight turns q s n l r h
         → Goes (suc (suc (suc turns))) past (walked d (walk_at (left_node q s) n Choice) (Here (c n KeyField))))
         -- and at a link that names no node
@@ -153,7 +149,9 @@ module _ (slots : ℕ) (c : Cells) (kind : Kind) (ps : Pairs) (few : slots ≤ 6
           let not_q : n ≢ q = λ e. h.apart (inl (sym e)) in
           let not_1 : n ≢ 1 = λ e. absurd (omega arith) in
           let named : node_at x ≡ Some n = ap node_at h.spelled.0 ∙ node_at-node n (omega arith) (omega arith) in
-          let rest : ℕ = max (walk_turns after l) (walk_turns after r) in
+          let rest : ℕ = walk_turns after l + 6 * size_of r in
+          let turns_l : walk_turns after l ≡ 6 * size_of l + suc after = walk_turns_are after l in
+          let turns_r : walk_turns after r ≡ 6 * size_of r + suc after = walk_turns_are after r in
           let step1 : walk_step w (Number x) ≡ (w1, Visit n)
           = ap (following w s x) named ∙ cond-false (has n (q ∷ 1 ∷ [])) (w, Astray) (w1, Visit n)
           (not_back n q not_q not_1) in
@@ -168,7 +166,6 @@ module _ (slots : ℕ) (c : Cells) (kind : Kind) (ps : Pairs) (few : slots ≤ 6
           let apart : Apart c n l r = hole_apart kind slots c ps tree.tree k q f n l r tree.rising h in
           let unseen_l : IsUnseen l past3 = unseen_left c n l r apart v past1 unseen in
           let unseen_r : IsUnseen r past3 = unseen_right c n l r apart v past1 unseen in
-          let some : after < walk_turns after l = walk_turns_some after l in
           let to_left : GoesLeft rest q s n l r h
           = λ d' less past' good' unseen'. (
           let go : Goes (walk_turns after l) past' (walking d' (walk_at b n (Link Left)), AskRead n LeftLink)
@@ -214,7 +211,7 @@ module _ (slots : ℕ) (c : Cells) (kind : Kind) (ps : Pairs) (few : slots ≤ 6
             ((omega arith, omega arith), tree.unmarked, refl),
             go2,
           ) in
-          let few_turns : walk_turns after t ≤ 6 * size_of t + suc after = walk_turns_few after t in
+          let few_turns : walk_turns after t ≡ 6 * size_of t + suc after = walk_turns_are after t in
           let size : size_of t ≤ slots = search_tree_size kind slots c ps tree in
           more_turns slots c moves Wanted (suc (walk_turns after t)) (6 * slots + (after + 3))
           (moves (walking d w0) Begin).1 []

@@ -9,7 +9,7 @@ use Rattle.pc_model.specs.declared.cell.Side.TheVariants.{Left, Right}
 use Rattle.pc_model.specs.Map.{Pairs}
 use Rattle.pc_model.specs.Cells.{Cells}
 use Rattle.pc_model.specs.Sides.{link_of}
-use Rattle.pc_model.specs.Trees.{Tree, Empty, Fork, Kind, IsSearchTree}
+use Rattle.pc_model.specs.Trees.{Tree, Empty, Fork, Kind, size_of, IsSearchTree}
 use Rattle.pc_plan.specs.declared.plan.Ask.{Ask}
 use Rattle.pc_plan.specs.declared.plan.Ask.TheVariants.{Visit as AskVisit, Read as AskRead}
 use Rattle.pc_plan.specs.declared.plan.Told.{Told}
@@ -45,14 +45,16 @@ module _ (slots : ℕ) (c : Cells) (kind : Kind) (ps : Pairs) (few : slots ≤ 6
       (reads : (x : ℕ) (w : Walk) (n : ℕ) (f : Field) → walked x w (Read n f) ≡ (walking x w, AskRead n f))
       (passes : (x : ℕ) (w : Walk) (y : ℕ) → w.key ≢ y
       → walked x w (Here y) ≡ (walking y (on_way w y), AskRead w.node (way w y)))
-      (after : ℕ) where
+      -- so many turns come after it, and at its key so many
+      (after : ℕ) (turns_at : Tree → Tree → ℕ)
+      (enough : (l r : Tree) → turns_at l r ≤ 6 * (size_of l + size_of r) + after) where
     abbrev To : ℕ → List Event → P × Ask → Type 0
     To turns past s = Course slots c moves Wanted s.1 turns past s.0
 
     module _
         (at_key : (x q : ℕ) (s : Side) (n : ℕ) (l r : Tree) → HoleHere q s (Fork n l r) → IsKeyOf c q x
         → k ≡ c n KeyField → (past : List Event) → IsUnseen l past → IsUnseen r past
-        → To after past (walked x (below q s n Choice) (Here (c n KeyField))))
+        → To (turns_at l r) past (walked x (below q s n Choice) (Here (c n KeyField))))
         (at_end : (x q : ℕ) (s : Side) (a : Above) → HoleHere q s Empty → IsKeyOf c q x → (past : List Event)
         → To after past (walked x (walk_at slots c kind ps few tree k a q (Link s)) (Missing s (c q (link_of s)))))
       where
@@ -79,7 +81,8 @@ module _ (slots : ℕ) (c : Cells) (kind : Kind) (ps : Pairs) (few : slots ≤ 6
             let w : Walk = below q s n Choice in
             let y : ℕ = c n KeyField in
             ⊎_elim
-            (λ e. more_turns slots c moves Wanted after (suc (suc (suc turns))) (walked x w (Here y)).1 past
+            (λ e. let most : turns_at l r ≤ 6 * (size_of l + size_of r) + after = enough l r in
+            more_turns slots c moves Wanted (turns_at l r) (suc (suc (suc turns))) (walked x w (Here y)).1 past
             (walked x w (Here y)).0 (omega arith)
             (at_key x q s n l r h good e past unseen_l unseen_r))
             (λ sides. ⊎_elim
