@@ -7,10 +7,14 @@ ghost use Rattle.pc_model.specs.TreeForms.{tree_form};
 ghost use Rattle.pc_plan.specs.CallLaws.{StandsForCall};
 ghost use Rattle.pc_plan.specs.EndLaws.{EndsInChange, EndsInAnswer};
 ghost use Rattle.pc_plan.specs.Quiet.{AsksForNoExchange};
+ghost use Rattle.pc_avl.specs.declared.repair.Aim.TheVariants.{Exact, Nearest};
+ghost use Rattle.pc_avl.specs.RepairCases.{StandsForRepair, EndsByCases};
 
 use crate::get::AvlGet;
 use crate::put::AvlPut;
 use crate::remove::AvlRemove;
+use crate::repair_from::AvlRepairFrom;
+use crate::repair_key::AvlRepair;
 use pc_plan::Plan;
 
 /// `AvlGet` stands for the map's get of each key, `AvlPut` for the put of each pair, and `AvlRemove` for
@@ -36,4 +40,17 @@ pub fn plans_end_as_their_calls_do()
         ⟦<AvlRemove as Plan>⟧.can_call ⟦<AvlRemove as Plan>⟧.form (λ k ps. IsSome (value_at k ps)) }
     ensures missing { EndsInAnswer ⟦<AvlRemove as Plan>⟧.start ⟦<AvlRemove as Plan>⟧.moves
         ⟦<AvlRemove as Plan>⟧.can_call ⟦<AvlRemove as Plan>⟧.form (λ k ps. value_at k ps ≡ None) }
+{}
+
+/// `AvlRepair` is the repair of each number as a key, and `AvlRepairFrom` that of the nearest key from each number
+/// up, on balanced search trees. On sound cells both end by the heights that the cells store: they answer where there
+/// is no such key or its node is in balance, correct the height where those of the children are close, and rotate
+/// once or twice where they aren't, unless a node below is out of balance and comes first.
+pub fn repairs_end_by_cases()
+    ensures key { StandsForRepair ⟦<AvlRepair as Plan>⟧.terms ⟦<AvlRepair as Plan>⟧.can_call
+        ⟦<AvlRepair as Plan>⟧.form Exact }
+    ensures key_ends { EndsByCases ⟦<AvlRepair as Plan>⟧.start ⟦<AvlRepair as Plan>⟧.moves Exact }
+    ensures nearest { StandsForRepair ⟦<AvlRepairFrom as Plan>⟧.terms ⟦<AvlRepairFrom as Plan>⟧.can_call
+        ⟦<AvlRepairFrom as Plan>⟧.form Nearest }
+    ensures nearest_ends { EndsByCases ⟦<AvlRepairFrom as Plan>⟧.start ⟦<AvlRepairFrom as Plan>⟧.moves Nearest }
 {}

@@ -5,11 +5,18 @@
 mod charges;
 mod get;
 mod laws;
+mod look;
 mod put;
 mod remove;
+mod repair;
+mod repair_change;
+mod repair_from;
+mod repair_key;
 
 pub use charges::debts;
 pub use get::AvlGet;
-pub use laws::{plans_end_as_their_calls_do, plans_stand_for_their_calls};
+pub use laws::{plans_end_as_their_calls_do, plans_stand_for_their_calls, repairs_end_by_cases};
 pub use put::AvlPut;
 pub use remove::AvlRemove;
+pub use repair_from::AvlRepairFrom;
+pub use repair_key::AvlRepair;

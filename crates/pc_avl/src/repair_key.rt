@@ -1,0 +1,70 @@
+//! The plan of the repair of a key.
+ghost use Rattle.std.specs.Prelude.{◌≡◌};
+ghost use Rattle.pc_plan.specs.Asking.{asked};
+
+use crate::repair::{Aim, Repair};
+use pc_model::{Call, Reply, Settle};
+use pc_plan::{Change, Plan, Told, Turn};
+use std::marker::Model;
+
+/// The plan of the repair of a key, any number. It answers `None` where the key isn't there or its node is in
+/// balance, `Was` of the key where it changed the node's height or rotated it, and `Value` of the key of a
+/// node below that is to be repaired first.
+#[derive(Debug, Drop)]
+pub struct AvlRepair {
+    repair: Repair,
+}
+
+impl Model for AvlRepair {
+    ghost use Rattle.pc_avl.specs.declared.repair.Repair.{Repair};
+
+    ghost Value = { Repair };
+
+    ghost view = { λ p. p.repair };
+}
+
+impl Plan for AvlRepair {
+    ghost use Rattle.pc_model.specs.Trees.{balanced};
+    ghost use Rattle.pc_model.specs.TreeForms.{tree_form};
+    ghost use Rattle.pc_avl.specs.declared.repair.Aim.TheVariants.{Exact};
+    ghost use Rattle.pc_avl.specs.Repairs.{repair_of, repair_moves};
+    ghost use Rattle.pc_avl.specs.RepairTerms.{repair_terms};
+    ghost use Rattle.pc_avl.specs.RepairLaws.{repair_laws};
+
+    type Call = u64;
+
+    ghost start = { repair_of Exact };
+
+    ghost moves = { repair_moves };
+
+    ghost can_call = { λ k. Unit {0} };
+
+    ghost terms = { repair_terms Exact };
+
+    ghost form = { tree_form balanced };
+
+    ghost laws = { repair_laws Exact };
+
+    fn begin(call: u64) -> AvlRepair {
+        AvlRepair {
+            repair: Repair::new(Aim::Exact, call),
+        }
+    }
+
+    #[inline(always)]
+    fn step(&mut self, told: Told, change: &mut Change) -> Turn {
+        self.repair.step(told, change)
+    }
+
+    fn entry(_call: u64) -> Option<Call> {
+        None
+    }
+
+    fn settles(call: u64, reply: Reply) -> Settle {
+        match reply {
+            Reply::None | Reply::Was(_) => Settle::Release(call),
+            Reply::Value(key) => Settle::First(key),
+            Reply::New | Reply::Pair(_, _) => Settle::Nothing,
+        }
+    }
+}
