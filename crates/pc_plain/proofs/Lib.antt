@@ -5,6 +5,7 @@ pub mod LawfulExchanges
 pub mod Listing
 pub mod Making
 pub mod Opening
+pub mod OwedRight
 pub mod QuietPlans
 pub mod RunRight
 pub mod ShapeBuilding

@@ -9,7 +9,7 @@ use Rattle.pc_model.specs.declared.cell.Field.{Field}
 use Rattle.pc_model.specs.declared.cell.Field.TheVariants.{Version, Key, Value, Left, Right, Parent, Height, Spare}
 use Rattle.pc_model.specs.Cells.{Cells, field_number, written, opening_fields}
 use Rattle.pc_model.specs.Counts.{count, one_if}
-use Rattle.pc_model.specs.Trees.{Empty, plain, IsSearchTree}
+use Rattle.pc_model.specs.Trees.{Empty, Kind, IsSearchTree}
 use Rattle.pc_model.proofs.Counting.{count-append}
 use Rattle.pc_plain.specs.PlainCells.{cells_in, limit, AreBelowLimits, is_free, IsSoundPlain}
 use Rattle.pc_plain.specs.PlainWriting.{OpensCells, HasEachSlot}
@@ -132,8 +132,8 @@ module _ (slots : ℕ) (words : List ℕ) (long : length words ≡ 8 * (slots + 
   opening_sound free capacity few each room =
       record { few = few; long = long; fit = opening_below; free_once = opening_once free each; room = omega arith }
 
-  pub opening_empty : IsSearchTree plain slots (cells_in words) []
-  opening_empty =
+  pub opening_empty : (kind : Kind) → IsSearchTree kind slots (cells_in words) []
+  opening_empty kind =
       let even : cells_in words 1 Version ≡ 0 = opens 1 Version (omega arith) in
       record {
         tree = Empty;

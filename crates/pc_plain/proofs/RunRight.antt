@@ -42,7 +42,7 @@ kept_field Parent x ne = refl
 kept_field Height x ne = refl
 kept_field Spare x ne = refl
 
-kept_but_versions : (slots : ℕ) (c c' : Cells) → ((n : ℕ) (f : Field) → c' n f ≡ kept f (c n f))
+pub kept_but_versions : (slots : ℕ) (c c' : Cells) → ((n : ℕ) (f : Field) → c' n f ≡ kept f (c n f))
     → SameButVersions slots c c'
 kept_but_versions slots c c' same = record {
   fields = λ n f _ ne. same n f ∙ kept_field f (c n f) ne;
@@ -159,7 +159,7 @@ module _ {P C : Type 0} (start : C → P) (moves : P → Told → P × Ask) (can
         cells = written.cells;
       }
 
-      pub change_run : HoldsPairs form w → IsRunOf start moves form call w new p.reply
+      unfoldable pub change_run : HoldsPairs form w → IsRunOf start moves form call w new p.reply
       change_run holds = (
         come.0,
         come.1,

@@ -1,3 +1,4 @@
+pub mod OwedRuns
 pub mod PlainCells
 pub mod PlainPairs
 pub mod PlainRuns

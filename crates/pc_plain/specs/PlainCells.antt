@@ -5,7 +5,7 @@ use Rattle.pc_model.specs.declared.cell.Field.{Field}
 use Rattle.pc_model.specs.declared.cell.Field.TheVariants.{Version, Key, Value, Left, Right, Parent, Height, Spare}
 use Rattle.pc_model.specs.Cells.{Cells, IsNode, opening_fields, field_number}
 use Rattle.pc_model.specs.Counts.{count, one_if}
-use Rattle.pc_model.specs.Trees.{plain, IsSearchTree}
+use Rattle.pc_model.specs.Trees.{Kind, IsSearchTree}
 
 -- how many slots there are, and the words of all nodes from node 0 on
 pub record PlainWords : Type 0 where
@@ -49,8 +49,9 @@ pub record IsSoundPlain (slots : ℕ) (words free : List ℕ) (capacity : ℕ) :
 abbrev pub AreOpening : PlainWords → Type 0
 AreOpening p = (n : ℕ) (f : Field) → IsNode p.slots n → cells_of p n f ≡ opening_fields n f
 
+-- the cells are an empty tree, of each kind
 abbrev pub IsEmptyTree : PlainWords → Type 0
-IsEmptyTree p = IsSearchTree plain p.slots (cells_of p) []
+IsEmptyTree p = (kind : Kind) → IsSearchTree kind p.slots (cells_of p) []
 
 -- a version that is too great is set back to 0 or 1, as it is even or odd
 abbrev pub kept : Field → ℕ → ℕ

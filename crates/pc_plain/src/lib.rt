@@ -5,6 +5,7 @@
 mod laws;
 mod node_store;
 mod node_words;
+mod owed_run;
 mod plain;
 mod run;
 mod tree_pairs;
@@ -12,6 +13,7 @@ mod tree_shape;
 
 pub use laws::quiet_plans_change_nothing;
 pub use node_store::NoPlainSlot;
+pub use owed_run::run_owed;
 pub use plain::PlainCells;
 pub use run::run_plan;
 pub use tree_pairs::pairs;

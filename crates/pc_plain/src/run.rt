@@ -13,7 +13,7 @@ use pc_plan::{Change, Plan, Told, Turn};
 
 /// How a plan ends.
 #[derive(Clone, Copy)]
-enum End {
+pub(crate) enum End {
     /// It wrote an exchange.
     Exchange,
     /// It answered.
@@ -78,7 +78,7 @@ fn take_three_turns<P: Plan>(
 }
 
 /// Tells the plan of a call what stands in the nodes, to its end. An exchange stands in `change` then.
-fn end_of<P: Plan>(nodes: &NodeStore, call: P::Call, change: &mut Change) -> End
+pub(crate) fn end_of<P: Plan>(nodes: &NodeStore, call: P::Call, change: &mut Change) -> End
     requires call { P.can_call call }
     requires sound { HoldsPairs P.form nodes.now }
     ensures comes { ComesTo P.start P.moves nodes.now call (last_ask result change.new) }
