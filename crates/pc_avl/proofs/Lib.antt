@@ -1,1 +1,2 @@
 mod Seeking
+pub mod NoSlots

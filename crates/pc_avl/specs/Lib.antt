@@ -19,3 +19,4 @@ pub mod RepairTerms
 pub mod RepairTold
 pub mod RepairWalks
 pub mod Repairs
+pub mod TreeKinds

@@ -5,7 +5,7 @@ ghost use Rattle.pc_model.specs.Map.{IsKey, IsPair, value_at};
 ghost use Rattle.pc_model.specs.Trees.{balanced};
 ghost use Rattle.pc_model.specs.TreeForms.{tree_form};
 ghost use Rattle.pc_plan.specs.CallLaws.{StandsForCall};
-ghost use Rattle.pc_plan.specs.EndLaws.{EndsInChange, EndsInAnswer};
+ghost use Rattle.pc_plan.specs.EndLaws.{EndsInChange, EndsInAnswer, WantsNoSlot, WantsSlotForNew};
 ghost use Rattle.pc_plan.specs.Quiet.{AsksForNoExchange};
 ghost use Rattle.pc_avl.specs.declared.repair.Aim.TheVariants.{Exact, Nearest};
 ghost use Rattle.pc_avl.specs.RepairCases.{StandsForRepair, EndsByCases};
@@ -53,4 +53,13 @@ pub fn repairs_end_by_cases()
     ensures nearest { StandsForRepair ⟦<AvlRepairFrom as Plan>⟧.terms ⟦<AvlRepairFrom as Plan>⟧.can_call
         ⟦<AvlRepairFrom as Plan>⟧.form Nearest }
     ensures nearest_ends { EndsByCases ⟦<AvlRepairFrom as Plan>⟧.start ⟦<AvlRepairFrom as Plan>⟧.moves Nearest }
+{}
+
+/// Whatever it is told, a put asks for a fresh node only where its reply is that the key is new, and a remove
+/// for none.
+pub fn slots_are_for_new_keys()
+    ensures put { WantsSlotForNew ⟦<AvlPut as Plan>⟧.start ⟦<AvlPut as Plan>⟧.moves
+        ⟦<AvlPut as Plan>⟧.can_call }
+    ensures remove { WantsNoSlot ⟦<AvlRemove as Plan>⟧.start ⟦<AvlRemove as Plan>⟧.moves
+        ⟦<AvlRemove as Plan>⟧.can_call }
 {}

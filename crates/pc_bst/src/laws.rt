@@ -5,7 +5,7 @@ ghost use Rattle.pc_model.specs.Map.{IsKey, IsPair, value_at};
 ghost use Rattle.pc_model.specs.Trees.{plain};
 ghost use Rattle.pc_model.specs.TreeForms.{tree_form};
 ghost use Rattle.pc_plan.specs.CallLaws.{StandsForCall};
-ghost use Rattle.pc_plan.specs.EndLaws.{EndsInAnswer, EndsInChange, ChargesNothing};
+ghost use Rattle.pc_plan.specs.EndLaws.{EndsInAnswer, EndsInChange, ChargesNothing, WantsNoSlot, WantsSlotForNew};
 ghost use Rattle.pc_plan.specs.Quiet.{AsksForNoExchange};
 
 use crate::get::BstGet;
@@ -43,5 +43,14 @@ pub fn plans_charge_nothing()
     ensures put { ChargesNothing ⟦<BstPut as Plan>⟧.start ⟦<BstPut as Plan>⟧.moves
         ⟦<BstPut as Plan>⟧.can_call }
     ensures remove { ChargesNothing ⟦<BstRemove as Plan>⟧.start ⟦<BstRemove as Plan>⟧.moves
+        ⟦<BstRemove as Plan>⟧.can_call }
+{}
+
+/// Whatever it is told, a put asks for a fresh node only where its reply is that the key is new, and a remove
+/// for none.
+pub fn slots_are_for_new_keys()
+    ensures put { WantsSlotForNew ⟦<BstPut as Plan>⟧.start ⟦<BstPut as Plan>⟧.moves
+        ⟦<BstPut as Plan>⟧.can_call }
+    ensures remove { WantsNoSlot ⟦<BstRemove as Plan>⟧.start ⟦<BstRemove as Plan>⟧.moves
         ⟦<BstRemove as Plan>⟧.can_call }
 {}

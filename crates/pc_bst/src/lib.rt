@@ -12,7 +12,10 @@ mod tree_put;
 
 pub use get::BstGet;
 pub use kind::{NodeKind, charge_key_of};
-pub use laws::{plans_charge_nothing, plans_end_as_their_calls_do, plans_stand_for_their_calls};
+pub use laws::{
+    plans_charge_nothing, plans_end_as_their_calls_do, plans_stand_for_their_calls,
+    slots_are_for_new_keys,
+};
 pub use put::BstPut;
 pub use remove::BstRemove;
 pub use tree_put::TreePut;

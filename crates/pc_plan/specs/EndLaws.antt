@@ -1,5 +1,6 @@
--- How a plan ends, and what it charges: laws on its members.
-use Rattle.std.specs.Prelude.{◌≡◌, ℕ, List, []}
+-- How a plan ends, what it charges and whether it wants a slot: laws on its members.
+use Rattle.std.specs.Prelude.{◌≡◌, ℕ, ◌⊎◌, List, [], None}
+use Rattle.pc_model.specs.declared.call.Reply.TheVariants.{New}
 use Rattle.pc_model.specs.Map.{Pairs}
 use Rattle.pc_model.specs.Cells.{Cells}
 use Rattle.pc_model.specs.Forms.{Form}
@@ -45,3 +46,27 @@ IsFree (Answer r) = Unit {0}
 abbrev pub ChargesNothing : {P C : Type 0} → (C → P) → (P → Told → P × Ask) → (C → Type 0) → Type 0
 ChargesNothing {P} {C} start moves can_call =
     (call : C) (ts : List Told) → can_call call → IsFree (reached start moves call ts).1
+
+-- the ask is for no exchange with a fresh node
+abbrev pub HasNoFresh : Ask → Type 0
+HasNoFresh (Visit n) = Unit {0}
+HasNoFresh (Read n f) = Unit {0}
+HasNoFresh (Change p) = p.fresh ≡ None
+HasNoFresh (Answer r) = Unit {0}
+
+-- whatever the plan is told, it wants no slot for a fresh node
+abbrev pub WantsNoSlot : {P C : Type 0} → (C → P) → (P → Told → P × Ask) → (C → Type 0) → Type 0
+WantsNoSlot {P} {C} start moves can_call =
+    (call : C) (ts : List Told) → can_call call → HasNoFresh (reached start moves call ts).1
+
+-- the ask is for no exchange with a fresh node, or its reply is that the key is new
+abbrev pub IsFreshForNew : Ask → Type 0
+IsFreshForNew (Visit n) = Unit {0}
+IsFreshForNew (Read n f) = Unit {0}
+IsFreshForNew (Change p) = (p.fresh ≡ None) ⊎ (p.reply ≡ New)
+IsFreshForNew (Answer r) = Unit {0}
+
+-- whatever the plan is told, it wants a slot only where its reply is that the key is new
+abbrev pub WantsSlotForNew : {P C : Type 0} → (C → P) → (P → Told → P × Ask) → (C → Type 0) → Type 0
+WantsSlotForNew {P} {C} start moves can_call =
+    (call : C) (ts : List Told) → can_call call → IsFreshForNew (reached start moves call ts).1

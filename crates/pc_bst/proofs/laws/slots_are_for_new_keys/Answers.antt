@@ -1,0 +1,7 @@
+-- Proved in NoSlots.
+use Rattle.pc_bst.specs.declared.kind.NodeKind.TheVariants.{Plain}
+use Rattle.pc_bst.proofs.NoSlots.{put_wants_slot_for_new, remove_wants_no_slot}
+use Rattle.pc_bst.proofs.laws.slots_are_for_new_keys.Goals as goal
+
+pub returns : goal.returns
+returns c = record { put = put_wants_slot_for_new Plain; remove = remove_wants_no_slot }
