@@ -1,0 +1,3 @@
+pub mod Charging
+pub mod Refusals
+pub mod StateSteps
