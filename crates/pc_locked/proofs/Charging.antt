@@ -1,8 +1,7 @@
 -- What a run of a call that settles nothing leaves owed.
-use Rattle.std.proofs.Common.{◌≡◌, List, [], Result, Ok, Err, refl, ◌∙◌}
-use Rattle.std.specs.Prelude.{ℕ, IfOk, OnErr}
+use Rattle.std.proofs.Common.{◌≡◌, [], Result, Ok, Err, refl, ◌∙◌}
+use Rattle.std.specs.Prelude.{IfOk, OnErr}
 use Rattle.pc_model.specs.declared.call.Reply.{Reply}
-use Rattle.pc_model.specs.declared.owed.Settle.{Settle}
 use Rattle.pc_model.specs.declared.owed.Settle.TheVariants.{Nothing}
 use Rattle.pc_model.specs.Debts.{Debts, taken_up}
 use Rattle.pc_model.specs.Forms.{Form}

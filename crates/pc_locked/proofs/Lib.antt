@@ -1,3 +1,4 @@
 pub mod Charging
+pub mod Paying
 pub mod Refusals
 pub mod StateSteps

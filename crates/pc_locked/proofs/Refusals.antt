@@ -1,31 +1,15 @@
 -- A call is refused where its key is new and there are as many pairs as slots, and never else.
-use Rattle.std.proofs.Common.{◌≡◌, ℕ, suc, ◌≤◌, ◌==◌, ◌⊎◌, ⊎_elim, nat_lt, if◌then◌else◌, List, [], ◌∷◌, length, Option}
-use Rattle.std.proofs.Common.{Some, None, Result, Ok, Err, sym, ap, ◌∙◌, subst, refl, arith}
-use Rattle.std.specs.Prelude.{IsSome, IfErr, OnErr}
-use Rattle.std.proofs.lemmas.Bool.{cond_both, cond-true, cond-false, cases_Bool}
+use Rattle.std.proofs.Common.{◌≡◌, ℕ, suc, ◌≤◌, ◌==◌, nat_lt, if◌then◌else◌, [], ◌∷◌, length}
+use Rattle.std.proofs.Common.{Some, None, sym, ap, ◌∙◌, refl, arith}
+use Rattle.std.proofs.lemmas.Bool.{cond_both, cond-true, cond-false}
 use Rattle.pc_model.specs.declared.call.Call.{Call}
 use Rattle.pc_model.specs.declared.call.Call.TheVariants.{Put, Get, Remove, Ceil, Floor}
-use Rattle.pc_model.specs.declared.call.Reply.{Reply}
-use Rattle.pc_model.specs.declared.call.Reply.TheVariants.{New}
-use Rattle.pc_model.specs.Forms.{Form}
-use Rattle.pc_model.specs.Map.{Pairs, value_at, put, was_or_new, pairs_after}
+use Rattle.pc_model.specs.Map.{Pairs, value_at, put, pairs_after}
 use Rattle.pc_model.specs.Trees.{Kind, size_of, IsSearchTree}
 use Rattle.pc_model.proofs.Counting.{length-pairs_of}
 use Rattle.pc_model.proofs.Soundness.{search_tree_size}
-use Rattle.pc_plan.specs.declared.change.Fresh.{Fresh}
-use Rattle.pc_plan.specs.declared.plan.Ask.{Ask}
-use Rattle.pc_plan.specs.declared.plan.Ask.TheVariants.{Visit, Read, Change, Answer}
-use Rattle.pc_plan.specs.declared.plan.Told.{Told}
-use Rattle.pc_plan.specs.EndLaws.{IsFreshForNew, WantsSlotForNew}
-use Rattle.pc_plan.specs.Laws.{PlanLaws}
-use Rattle.pc_plan.specs.Runs.{IsRightAsk, reached, past_of}
-use Rattle.pc_plan.specs.Terms.{Terms, IsReply}
-use Rattle.pc_plan.specs.Traces.{Event}
-use Rattle.pc_plain.specs.declared.node_store.NoPlainSlot.{NoPlainSlot}
 use Rattle.pc_plain.specs.PlainCells.{PlainWords, cells_of}
-use Rattle.pc_plain.specs.PlainRuns.{WantsSlot}
-use Rattle.pc_plain.specs.OwedRuns.{IsRefused}
-use Rattle.pc_locked.specs.Answers.{IsNewPut, WantsSlotInVain, AnswersNewInVain}
+use Rattle.pc_locked.specs.Answers.{WantsSlotInVain}
 
 -- a put of a new key makes one pair more
 length-put_new : (k v : ℕ) (ps : Pairs) → value_at k ps ≡ None → length (put k v ps) ≡ suc (length ps)

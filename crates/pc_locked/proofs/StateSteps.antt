@@ -1,7 +1,7 @@
 -- A state that was opened just now, and a state with one entry more.
 use Rattle.std.proofs.Common.{◌≡◌, ◌≢◌, ℕ, zero, suc, ◌+◌, ◌-◌, ◌%◌, ◌^◌, ◌<◌, ◌≤◌, ◌==◌, ⊎_elim, List, [], ◌∷◌, ◌++◌, length, refl}
 use Rattle.std.proofs.Common.{sym, ap, ◌∙◌, subst, arith, length-append}
-use Rattle.std.specs.Prelude.{slice_index, slice_set, Bool, true}
+use Rattle.std.specs.Prelude.{slice_index, slice_set, true}
 use Rattle.std.specs.List.{list_all}
 use Rattle.std.proofs.lemmas.List.{get_or-set_same, get_or-set_other}
 use Rattle.std.proofs.lemmas.Bool.{cases_eq, cond_both, and_parts, eqb-true}
@@ -10,13 +10,10 @@ use Rattle.pc_model.specs.declared.call.Call.{Call}
 use Rattle.pc_model.specs.declared.call.Reply.{Reply}
 use Rattle.pc_model.specs.declared.call.Entry.{Entry}
 use Rattle.pc_model.specs.declared.cell.Field.TheVariants.{Version}
-use Rattle.pc_model.specs.Cells.{IsEven, opening_fields}
+use Rattle.pc_model.specs.Cells.{opening_fields}
 use Rattle.pc_model.specs.Debts.{Debts, no_debts}
 use Rattle.pc_model.specs.History.{entries_of, IsNumberedFrom}
-use Rattle.pc_model.specs.Map.{Pairs, reply_of, pairs_after}
 use Rattle.pc_model.specs.Replay.{fold_of}
-use Rattle.pc_model.specs.Trees.{IsSearchTree}
-use Rattle.pc_model.specs.TreeForms.{InDebt, in_debt_of}
 use Rattle.pc_model.proofs.Histories.{IsNumberedFrom_push, AreOfClients_push, entries_of-push_same, entries_of-push_other}
 use Rattle.pc_model.proofs.Replaying.{fold_from-push, right_push}
 use Rattle.pc_plain.specs.PlainCells.{PlainWords, cells_of, AreOpening, IsEmptyTree}
@@ -25,7 +22,7 @@ use Rattle.pc_avl.specs.declared.tree_kind.TreeKind.{TreeKind}
 use Rattle.pc_avl.specs.declared.tree_kind.TreeKind.TheVariants.{Bst, Avl}
 use Rattle.pc_avl.specs.TreeKinds.{kind_of}
 use Rattle.pc_locked.specs.Answers.{AnswersAs}
-use Rattle.pc_locked.specs.States.{MapState, form_of, IsStampedFrom, IsRightState, AreCounts, next_entry}
+use Rattle.pc_locked.specs.States.{form_of, IsStampedFrom, IsRightState, AreCounts, next_entry}
 
 -- in the opening cells no key is in debt
 no_debt_at_opening : (kind : TreeKind) (w : PlainWords) (k : ℕ) → AreOpening w

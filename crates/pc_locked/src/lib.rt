@@ -3,7 +3,9 @@
 #![tactic(auto)]
 
 mod answer;
+mod pay;
 mod state;
 
+pub use pay::pay_by;
 pub use pc_avl::TreeKind;
 pub use state::{LockedState, apply, open_state};

@@ -18,11 +18,11 @@ use std::marker::Model;
 #[derive(Drop)]
 pub struct LockedState {
     kind: TreeKind,
-    cells: PlainCells,
+    pub(crate) cells: PlainCells,
     entries: Vec<Entry>,
     /// For how many entries there is room in all.
     calls: u32,
-    owed: Owed,
+    pub(crate) owed: Owed,
     /// How many entries each pass has, pass 1's first.
     counts: [u32; 32],
 }
