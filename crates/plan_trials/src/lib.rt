@@ -1,6 +1,6 @@
-//! Trials of the plans: what they ask for as they are told a small tree by hand, the exchanges that they write, and
-//! whole runs on plain cells, compared with what was worked out by hand. It stands above the crates that it tries,
-//! so that these are proved without tests.
+//! Trials of the plans: what they ask for as they are told a small tree by hand, the exchanges that they write, whole
+//! runs on plain cells and those of the map with its history, compared with what was worked out by hand. It stands
+//! above the crates that it tries, so that these are proved without tests.
 #![tactic(auto)]
 
 #[cfg(test)]
@@ -10,7 +10,11 @@ mod bst_steps;
 #[cfg(test)]
 mod changes;
 #[cfg(test)]
+mod locked_runs;
+#[cfg(test)]
 mod order_steps;
+#[cfg(test)]
+mod owed_runs;
 #[cfg(test)]
 mod plain_runs;
 #[cfg(test)]
