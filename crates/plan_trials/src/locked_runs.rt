@@ -58,12 +58,13 @@ fn runs_so(
     alloc: Global,
     kind: TreeKind,
     slots: u32,
+    calls: u32,
     rows: &[Row],
     entries: &[(u32, u32, u64)],
 ) -> Result<bool, Memory>
     requires { slots ≤ 61000 }
 {
-    let mut state = open_state(alloc, kind, slots, entries.len() as u32)?;
+    let mut state = open_state(alloc, kind, slots, calls)?;
     for (pass, called, wanted) in rows {
         if answer(&mut state, *pass, *called) != Some(*wanted) {
             return Ok(false);
@@ -85,8 +86,8 @@ fn a_missing_key_is_neither_found_nor_removed(rt: HostRuntime) {
     let rows = [(1, Called::Get(5), NONE), (1, Called::Remove(5), NONE)];
     let entries = [(1, 1, 1), (1, 2, 2)];
     let alloc = rt.alloc();
-    let plain = runs_so(alloc, TreeKind::Bst, 2, &rows, &entries);
-    let balanced = runs_so(alloc, TreeKind::Avl, 2, &rows, &entries);
+    let plain = runs_so(alloc, TreeKind::Bst, 2, 2, &rows, &entries);
+    let balanced = runs_so(alloc, TreeKind::Avl, 2, 2, &rows, &entries);
     assert!(rt; plain == Ok(true) && balanced == Ok(true));
 }
 
@@ -99,8 +100,8 @@ fn a_refused_put_is_not_entered(rt: HostRuntime) {
     ];
     let entries = [(1, 1, 1), (1, 2, 2)];
     let alloc = rt.alloc();
-    let plain = runs_so(alloc, TreeKind::Bst, 1, &rows, &entries);
-    let balanced = runs_so(alloc, TreeKind::Avl, 1, &rows, &entries);
+    let plain = runs_so(alloc, TreeKind::Bst, 1, 2, &rows, &entries);
+    let balanced = runs_so(alloc, TreeKind::Avl, 1, 2, &rows, &entries);
     assert!(rt; plain == Ok(true) && balanced == Ok(true));
 }
 
@@ -123,7 +124,7 @@ fn each_pass_counts_its_own_calls(rt: HostRuntime) {
         (2, 3, 6),
     ];
     let alloc = rt.alloc();
-    let plain = runs_so(alloc, TreeKind::Bst, 2, &rows, &entries);
-    let balanced = runs_so(alloc, TreeKind::Avl, 2, &rows, &entries);
+    let plain = runs_so(alloc, TreeKind::Bst, 2, 6, &rows, &entries);
+    let balanced = runs_so(alloc, TreeKind::Avl, 2, 6, &rows, &entries);
     assert!(rt; plain == Ok(true) && balanced == Ok(true));
 }
