@@ -61,7 +61,7 @@ fn one_for_put(call: &Call) -> u32
 
 // Runs the calls on an empty tree that has a slot for each put and one more.
 fn run_calls(alloc: Global, cells: &mut PlainCells, calls: &[Call]) -> Result<Vec<Entry>, Memory>
-    requires empty { IsEmptyTree cells.old }
+    requires empty { IsEmptyTree plain cells.old }
     requires size { cells.old.slots ≡ puts_in calls.now + 1 }
     requires few { length calls.now ≤ MOST_COMMANDS }
     requires in_range { All IsCallInRange calls.now }

@@ -14,6 +14,7 @@ use Rattle.pc_model.specs.Cells.{opening_fields}
 use Rattle.pc_model.specs.Debts.{Debts, no_debts}
 use Rattle.pc_model.specs.History.{entries_of, IsNumberedFrom}
 use Rattle.pc_model.specs.Replay.{fold_of}
+use Rattle.pc_model.specs.Trees.{plain, balanced}
 use Rattle.pc_model.proofs.Histories.{IsNumberedFrom_push, AreOfClients_push, entries_of-push_same, entries_of-push_other}
 use Rattle.pc_model.proofs.Replaying.{fold_from-push, right_push}
 use Rattle.pc_plain.specs.PlainCells.{PlainWords, cells_of, AreOpening, IsEmptyTree}
@@ -36,16 +37,22 @@ no_debt_at_opening Avl w k opening debt =
     let version : cells_of w n Version ≡ 1 = opening n Version (omega arith, high) ∙ unused in
     absurd (let odd : 1 % 2 ≡ 0 = rw version at debt.unmarked in omega arith)
 
+-- an empty tree of both kinds is one of either
+pub empty_of : (kind : TreeKind) (w : PlainWords) → IsEmptyTree plain w → IsEmptyTree balanced w
+    → IsEmptyTree (kind_of kind) w
+empty_of Bst w empty empty_balanced = empty
+empty_of Avl w empty empty_balanced = empty_balanced
+
 -- with no entries and no debts an empty tree is a right state
 pub opened_right : (kind : TreeKind) (w : PlainWords) (es : List Entry) (calls : ℕ) (owed : Debts) → w.slots ≤ 61000
-    → calls < 2 ^ 32 → AreOpening w → IsEmptyTree w → es ≡ [] → owed ≡ no_debts
+    → calls < 2 ^ 32 → AreOpening w → IsEmptyTree (kind_of kind) w → es ≡ [] → owed ≡ no_debts
     → IsRightState (record { kind = kind; cells = w; entries = es; calls = calls; owed = owed })
 opened_right kind w es calls owed few small opening empty none nothing =
     subst (λ (x : List Entry). IsRightState (record { kind = kind; cells = w; entries = x; calls = calls; owed = owed }))
     (sym none)
     (record {
       right = tt;
-      tree = empty (kind_of kind);
+      tree = empty;
       numbered = λ pass. tt;
       stamped = tt;
       of_passes = tt;

@@ -4,10 +4,8 @@ use Rattle.std.proofs.Common.{◌≡◌, ℕ, ◌≤◌, ◌⊎◌, inl, inr, �
 use Rattle.std.proofs.Common.{arith}
 use Rattle.std.specs.Prelude.{IsTrue, IfSome, IsSomeAnd}
 use Rattle.pc_model.specs.declared.call.Reply.{Reply}
-use Rattle.pc_model.specs.declared.cell.Field.TheVariants.{Version}
 use Rattle.pc_model.specs.declared.owed.Settle.{Settle}
 use Rattle.pc_model.specs.declared.owed.Settle.TheVariants.{Nothing, Release, First, Raise}
-use Rattle.pc_model.specs.Map.{Pairs}
 use Rattle.pc_model.specs.Cells.{Cells}
 use Rattle.pc_model.specs.Debts.{Debts, has, IsOwed, settled, taken_up}
 use Rattle.pc_model.specs.DebtLaws.{MayForget}

@@ -49,9 +49,9 @@ pub record IsSoundPlain (slots : ℕ) (words free : List ℕ) (capacity : ℕ) :
 abbrev pub AreOpening : PlainWords → Type 0
 AreOpening p = (n : ℕ) (f : Field) → IsNode p.slots n → cells_of p n f ≡ opening_fields n f
 
--- the cells are an empty tree, of each kind
-abbrev pub IsEmptyTree : PlainWords → Type 0
-IsEmptyTree p = (kind : Kind) → IsSearchTree kind p.slots (cells_of p) []
+-- the cells are an empty tree of this kind
+abbrev pub IsEmptyTree : Kind → PlainWords → Type 0
+IsEmptyTree kind p = IsSearchTree kind p.slots (cells_of p) []
 
 -- a version that is too great is set back to 0 or 1, as it is even or odd
 abbrev pub kept : Field → ℕ → ℕ

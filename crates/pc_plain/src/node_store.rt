@@ -36,6 +36,7 @@ pub struct NoPlainSlot {
 }
 
 impl NodeStore {
+    ghost use Rattle.pc_model.specs.Trees.{plain, balanced};
     ghost use Rattle.pc_plain.specs.PlainCells.{cells_of, AreBelowLimits, AreOpening, IsEmptyTree};
     ghost use Rattle.pc_plain.specs.PlainRuns.{AllInUse};
     ghost use Rattle.pc_plain.specs.PlainWriting.{CanMake, IsWritten};
@@ -45,7 +46,8 @@ impl NodeStore {
         requires { slots ≤ 61000 }
         ensures slots { IfOk result (λ s. s.slots ≡ slots) }
         ensures opening { IfOk result AreOpening }
-        ensures empty { IfOk result IsEmptyTree }
+        ensures empty { IfOk result (IsEmptyTree plain) }
+        ensures empty_balanced { IfOk result (IsEmptyTree balanced) }
     {
         let words = opening_words(alloc, slots)?;
         let free = all_slots(alloc, slots)?;

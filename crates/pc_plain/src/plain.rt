@@ -25,6 +25,7 @@ impl Model for PlainCells {
 }
 
 impl PlainCells {
+    ghost use Rattle.pc_model.specs.Trees.{plain, balanced};
     ghost use Rattle.pc_plain.specs.PlainCells.{cells_of, AreOpening, IsEmptyTree};
 
     /// Cells of an empty tree with room for so many pairs.
@@ -32,7 +33,8 @@ impl PlainCells {
         requires { slots ≤ 61000 }
         ensures slots { IfOk result (λ p. p.slots ≡ slots) }
         ensures opening { IfOk result AreOpening }
-        ensures empty { IfOk result IsEmptyTree }
+        ensures empty { IfOk result (IsEmptyTree plain) }
+        ensures empty_balanced { IfOk result (IsEmptyTree balanced) }
     {
         let nodes = NodeStore::new(alloc, slots)?;
         Ok(PlainCells {

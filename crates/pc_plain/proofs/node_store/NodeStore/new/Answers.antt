@@ -1,3 +1,4 @@
+use Rattle.pc_model.specs.Trees.{plain, balanced}
 use Rattle.pc_plain.proofs.Opening.{opening_sound, opening_empty}
 use Rattle.pc_plain.proofs.node_store.NodeStore.new.Goals as goal
 
@@ -8,4 +9,8 @@ invariant_of-result c =
 
 pub returns-clause-empty : goal.returns-clause-empty
 returns-clause-empty c =
-    opening_empty c.args.slots c.in_ok-words.words.items c.in_ok-words.ensures.long c.in_ok-words.ensures.cells
+    opening_empty c.args.slots c.in_ok-words.words.items c.in_ok-words.ensures.long c.in_ok-words.ensures.cells plain
+
+pub returns-clause-empty_balanced : goal.returns-clause-empty_balanced
+returns-clause-empty_balanced c =
+    opening_empty c.args.slots c.in_ok-words.words.items c.in_ok-words.ensures.long c.in_ok-words.ensures.cells balanced
