@@ -1,12 +1,12 @@
 -- A remove from a balanced tree has no fresh node.
-use Rattle.std.proofs.Common.{◌≡◌, ℕ, ◌==◌, List, ◌∷◌, [], Option, Some, None, refl}
+use Rattle.std.proofs.Common.{ℕ, ◌==◌, List, ◌∷◌, [], Option, Some, None, refl}
 use Rattle.std.proofs.lemmas.Bool.{cond_both}
 use Rattle.pc_model.specs.declared.cell.Field.TheVariants.{Left as LeftLink}
 use Rattle.pc_model.specs.Map.{IsKey}
 use Rattle.pc_model.specs.Cells.{node_at}
 use Rattle.pc_model.specs.Debts.{has}
 use Rattle.pc_plan.specs.declared.plan.Ask.{Ask}
-use Rattle.pc_plan.specs.declared.plan.Ask.TheVariants.{Visit as AskVisit, Read as AskRead}
+use Rattle.pc_plan.specs.declared.plan.Ask.TheVariants.{Visit as AskVisit}
 use Rattle.pc_plan.specs.declared.plan.Told.{Told}
 use Rattle.pc_plan.specs.declared.plan.Told.TheVariants.{Begin, Version, Number}
 use Rattle.pc_plan.specs.declared.walk.Above.{Above}
@@ -32,7 +32,8 @@ use Rattle.pc_avl.specs.Removes.{following, remove_passes, remove_walked, remove
 abbrev IsSpare : AvlRemove × Ask → Type 0
 IsSpare s = HasNoFresh s.1
 
-removal_spare : (r : AvlRemove) (leaving : Leaving) (heir : Option Heir) → IsSpare (remove_ends r (removal r leaving heir))
+removal_spare : (r : AvlRemove) (leaving : Leaving) (heir : Option Heir)
+    → IsSpare (remove_ends r (removal r leaving heir))
 removal_spare r Target heir = refl
 removal_spare r Successor heir = refl
 

@@ -1,5 +1,6 @@
 -- A state that was opened just now, and a state with one entry more.
-use Rattle.std.proofs.Common.{◌≡◌, ◌≢◌, ℕ, zero, suc, ◌+◌, ◌-◌, ◌%◌, ◌^◌, ◌<◌, ◌≤◌, ◌==◌, ⊎_elim, List, [], ◌∷◌, ◌++◌, length, refl}
+use Rattle.std.proofs.Common.{◌≡◌, ◌≢◌, ℕ, zero, suc, ◌+◌, ◌-◌, ◌%◌, ◌^◌, ◌<◌, ◌≤◌, ◌==◌, ⊎_elim, List, []}
+use Rattle.std.proofs.Common.{◌∷◌, ◌++◌, length, refl}
 use Rattle.std.proofs.Common.{sym, ap, ◌∙◌, subst, arith, length-append}
 use Rattle.std.specs.Prelude.{slice_index, slice_set, true}
 use Rattle.std.specs.List.{list_all}
@@ -15,7 +16,8 @@ use Rattle.pc_model.specs.Debts.{Debts, no_debts}
 use Rattle.pc_model.specs.History.{entries_of, IsNumberedFrom}
 use Rattle.pc_model.specs.Replay.{fold_of}
 use Rattle.pc_model.specs.Trees.{plain, balanced}
-use Rattle.pc_model.proofs.Histories.{IsNumberedFrom_push, AreOfClients_push, entries_of-push_same, entries_of-push_other}
+use Rattle.pc_model.proofs.Histories.{IsNumberedFrom_push, AreOfClients_push, entries_of-push_same}
+use Rattle.pc_model.proofs.Histories.{entries_of-push_other}
 use Rattle.pc_model.proofs.Replaying.{fold_from-push, right_push}
 use Rattle.pc_plain.specs.PlainCells.{PlainWords, cells_of, AreOpening, IsEmptyTree}
 use Rattle.pc_plain.specs.OwedRuns.{AnswersForDebts}
@@ -48,7 +50,8 @@ pub opened_right : (kind : TreeKind) (w : PlainWords) (es : List Entry) (calls :
     → calls < 2 ^ 32 → AreOpening w → IsEmptyTree (kind_of kind) w → es ≡ [] → owed ≡ no_debts
     → IsRightState (record { kind = kind; cells = w; entries = es; calls = calls; owed = owed })
 opened_right kind w es calls owed few small opening empty none nothing =
-    subst (λ (x : List Entry). IsRightState (record { kind = kind; cells = w; entries = x; calls = calls; owed = owed }))
+    subst (λ (x : List Entry).
+    IsRightState (record { kind = kind; cells = w; entries = x; calls = calls; owed = owed }))
     (sym none)
     (record {
       right = tt;

@@ -38,7 +38,8 @@ abbrev pub IsInFullBalance : PlainWords → Type 0
 IsInFullBalance w = (ps : Pairs) (s : IsSearchTree balanced w.slots (cells_of w) ps) → IsBalanced (cells_of w) s.tree
 
 -- the plan was run on the cells with some reply, and its settlement and charges were taken up
-abbrev pub RunsFor : {P : Type 0} → (ℕ → P) → (P → Told → P × Ask) → Form → (ℕ → Terms) → ℕ → MapState → MapState → Type 0
+abbrev pub RunsFor : {P : Type 0} → (ℕ → P) → (P → Told → P × Ask) → Form → (ℕ → Terms) → ℕ → MapState → MapState
+    → Type 0
 RunsFor start moves form terms k old new = (r : Reply)
     × IsOwedRunOf start moves form (terms k) k old.cells new.cells old.owed new.owed r
 

@@ -1,10 +1,10 @@
 //! Running one call of the map on plain cells of a tree of either kind.
-ghost use Rattle.std.specs.Prelude.{◌≡◌, ◌≤◌, IfOk, IfErr, OnErr, OnOk};
+ghost use Rattle.std.specs.Prelude.{◌≡◌, ◌≤◌, IfOk, IfErr, OnErr, OnOk, IsSome};
 ghost use Rattle.pc_model.specs.Debts.{Debts};
 ghost use Rattle.pc_text.specs.ScriptFacts.{IsCallInRange};
-ghost use Rattle.pc_plan.specs.EndLaws.{WantsNoSlot, WantsSlotForNew};
+ghost use Rattle.pc_plan.specs.EndLaws.{ChargesNothing, WantsNoSlot, WantsSlotForNew};
 ghost use Rattle.pc_plan.specs.Quiet.{AsksForNoExchange};
-ghost use Rattle.pc_plain.specs.OwedRuns.{AnswersForDebts, BeginsInReach, IsOwedRunOf};
+ghost use Rattle.pc_plain.specs.OwedRuns.{AnswersForDebts, BeginsInReach};
 ghost use Rattle.pc_plain.specs.PlainRuns.{HoldsPairs, RunsRight};
 ghost use Rattle.pc_avl.specs.declared.tree_kind.TreeKind.TheVariants.{Bst, Avl};
 ghost use Rattle.pc_locked.specs.Answers.{AnswersAs, AreCharged, IsRefusedOn, AnswersNewInVain};
@@ -40,12 +40,13 @@ fn put_by<P: Plan>(
 ) -> Result<Reply, NoPlainSlot>
     requires call { P.can_call call }
     requires sound { HoldsPairs P.form cells.old }
+    requires recorded { IsSome (P.terms call).entry }
     requires slots { WantsSlotForNew P.start P.moves P.can_call }
     requires few { cells.old.slots ≤ 61000 }
     ensures size { cells.new.slots ≡ cells.old.slots }
-    ensures run { IfOk result
-        (IsOwedRunOf P.start P.moves P.form (P.terms call) call cells.old cells.new owed.old owed.new) }
     ensures right { IfOk result (RunsRight P.form (P.terms call) cells.old cells.new) }
+    ensures charged { OnOk result (AreCharged owed.old owed.new) }
+    ensures free { ChargesNothing P.start P.moves P.can_call → owed.new ≡ owed.old }
     ensures answers { OnOk result (BeginsInReach (P.terms call) owed.old
         → AnswersForDebts P.form cells.old owed.old → AnswersForDebts P.form cells.new owed.new) }
     ensures live { IfErr result (λ e. e.live ≡ cells.old.slots) }
@@ -60,10 +61,12 @@ fn put_by<P: Plan>(
 fn remove_by<P: Plan>(cells: &mut PlainCells, call: P::Call, owed: &mut Owed) -> Reply
     requires call { P.can_call call }
     requires sound { HoldsPairs P.form cells.old }
+    requires recorded { IsSome (P.terms call).entry }
     requires slots { WantsNoSlot P.start P.moves P.can_call }
     ensures size { cells.new.slots ≡ cells.old.slots }
-    ensures run { IsOwedRunOf P.start P.moves P.form (P.terms call) call cells.old cells.new owed.old owed.new result }
     ensures right { RunsRight P.form (P.terms call) cells.old cells.new result }
+    ensures charged { AreCharged owed.old owed.new }
+    ensures free { ChargesNothing P.start P.moves P.can_call → owed.new ≡ owed.old }
     ensures answers { BeginsInReach (P.terms call) owed.old
         → AnswersForDebts P.form cells.old owed.old → AnswersForDebts P.form cells.new owed.new }
 {

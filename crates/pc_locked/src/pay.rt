@@ -39,7 +39,8 @@ pub fn pay_by<R: Plan<Call = u64>, F: Plan<Call = u64>>(state: &mut LockedState)
     requires from { IsRepair F.start F.moves F.can_call F.terms F.form (λ k. k) }
     ensures owing { result ≡ is_some (first_owed state.old.owed.keys state.old.owed.from) }
     ensures paid { IfSome (first_owed state.old.owed.keys state.old.owed.from)
-        (Repairs (RunsFor R.start R.moves R.form R.terms) (RunsFor F.start F.moves F.form F.terms) state.old state.new) }
+        (Repairs (RunsFor R.start R.moves R.form R.terms)
+        (RunsFor F.start F.moves F.form F.terms) state.old state.new) }
     ensures entries { state.new.entries ≡ state.old.entries }
     ensures pairs { KeepsPairs state.old.kind state.old.cells state.new.cells }
     ensures same { IsSameMap state.old state.new }

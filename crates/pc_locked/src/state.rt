@@ -1,5 +1,6 @@
 //! A map that keeps its history and its debts.
-ghost use Rattle.std.specs.Prelude.{◌≡◌, ◌≤◌, ◌<◌, ◌+◌, ◌-◌, ◌∷◌, [], ◌++◌, length, IfOk, IfErr, OnErr, OnOk, slice_index, slice_set};
+ghost use Rattle.std.specs.Prelude.{◌≡◌, ◌≤◌, ◌<◌, ◌+◌, ◌-◌, ◌∷◌, [], ◌++◌, length};
+ghost use Rattle.std.specs.Prelude.{IfOk, IfErr, OnErr, OnOk, slice_index, slice_set};
 ghost use Rattle.std.specs.Int.{IsInRange};
 ghost use Rattle.pc_model.specs.Map.{reply_of};
 ghost use Rattle.pc_model.specs.Replay.{fold_of};

@@ -1,7 +1,7 @@
 -- What a run leaves owed: its debts are those that its call settles and its exchange charges, and each key in
 -- debt is answered for.
-use Rattle.std.proofs.Common.{◌≡◌, ℕ, ◌≤◌, ◌⊎◌, inl, inr, ⊎_elim, List, [], Option, Some, None, refl, sym, ap, ◌∙◌, subst}
-use Rattle.std.proofs.Common.{arith}
+use Rattle.std.proofs.Common.{◌≡◌, ℕ, ◌≤◌, ◌⊎◌, inl, inr, ⊎_elim, List, [], Option, Some, None, refl}
+use Rattle.std.proofs.Common.{sym, ap, ◌∙◌, subst, arith}
 use Rattle.std.specs.Prelude.{IsTrue, IfSome, IsSomeAnd}
 use Rattle.pc_model.specs.declared.call.Reply.{Reply}
 use Rattle.pc_model.specs.declared.owed.Settle.{Settle}
@@ -75,7 +75,8 @@ module _ {P C : Type 0} (start : C → P) (moves : P → Told → P × Ask) (can
     answer_answers begins answers k debt =
         let right = comes_right start moves can_call terms form laws w few fit call can (Answer r) come holds.0
         holds.1 in
-        let known : IsOwed k before = answers k (subst (λ (x : PlainWords). form.in_debt x.slots (cells_of x) k) same debt)
+        let known : IsOwed k before = answers k
+        (subst (λ (x : PlainWords). form.in_debt x.slots (cells_of x) k) same debt)
         in
         subst (IsOwed k) (sym owes)
         (still_owed form w.slots (cells_of w) [] (terms call) before begins k debt ((terms call).settles r) right.2
@@ -94,7 +95,8 @@ module _ {P C : Type 0} (start : C → P) (moves : P → Told → P × Ask) (can
       -- where an exchange was made, its charges are entered after what the call settles
       pub change_owes : IsOwedRunOf start moves form (terms call) call old new before then r
       unfolding change_run
-      change_owes = subst (λ (x : PlainWords × Reply). IsOwedRunOf start moves form (terms call) call x.0 new before then
+      change_owes = subst (λ (x : PlainWords × Reply).
+          IsOwedRunOf start moves form (terms call) call x.0 new before then
           x.1) (λ i. (same i, sym is i)) (
             change_run start moves can_call terms form laws w few fit call can p come new size written holds,
             owes ∙ (λ i. taken_up ((terms call).settles (is i)) (charged_by (sym come.2 i)) before),

@@ -34,5 +34,6 @@ returns-in-Some-From-clause-paid g c =
       calls = c.state.inside.calls;
       owed = c.repair_by-in-Some-From.new.owed;
     })
-    (From c.in-Some-From.number) c.state.view_is (sym c.first.ensures ∙ c.in-Some-From.is ∙ ap Some c.in-Some-From.field-0-is)
+    (From c.in-Some-From.number) c.state.view_is
+    (sym c.first.ensures ∙ c.in-Some-From.is ∙ ap Some c.in-Some-From.field-0-is)
     (c.repair_by-in-Some-From.result, c.repair_by-in-Some-From.ensures.run)
