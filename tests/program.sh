@@ -40,7 +40,13 @@ check 'ceil and floor' 0 \
     'put 5 50\nceil 4\nfloor 7\nceil 6\n'
 check 'comments, blanks and carriage returns' 0 '1 1.1 put 7 1 = new\n2 1.2 get 7 = 1\nleft 1\n7 1\nend\n' \
     '# Z\xc3\xbcrich\r\n\r\n  put\t007 1\r\nget 7'
-check 'a word too many' 2 'fault usage\n' 'put 5 50\n' --tree
+check 'the shape of a tree' 0 \
+    '1 1.1 put 2 2 = new\n2 1.2 put 1 1 = new\nleft 2\n1 1\n2 2\nshape 2\n1 2 2 1\n2 1 1 0\nend\n' \
+    'put 2 2\nput 1 1\n' --shape
+check 'an option with a value that it has not' 2 'fault usage\n' 'put 5 50\n' --shape=x
+check 'an option twice' 2 'fault usage\n' 'put 5 50\n' --shape --shape
+check 'an option that is not there' 2 'fault usage\n' 'put 5 50\n' --help
+check 'a loose word' 2 'fault usage\n' 'put 5 50\n' shape
 check 'a word that is not UTF-8' 2 'fault usage\n' '' $'\xff'
 check 'a number too large' 3 'fault line 1 bad number\n' 'put 1000000000000000000 1\n'
 check 'the first bad line' 3 'fault line 2 unknown word\n' 'get 1\nGet 1\nput\n'

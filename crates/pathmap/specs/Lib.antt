@@ -1,3 +1,4 @@
 pub mod OneClient
 pub mod Reading
 pub mod Serving
+pub mod Words

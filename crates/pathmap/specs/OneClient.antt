@@ -1,5 +1,6 @@
--- A history of a script: one run of all its calls.
-use Rattle.std.specs.Prelude.{◌≡◌, ℕ, ◌<◌, ◌≤◌, List, length}
+-- A history of a script: one run of all its calls; and the shape of the tree that it leaves.
+use Rattle.std.specs.Prelude.{◌≡◌, ℕ, ◌<◌, ◌≤◌, Bool, true, false, List, length, Option, IsNone, IsSomeAnd, option_map}
+use Rattle.std.specs.Prelude.{Vec}
 use Rattle.pc_model.specs.declared.call.Call.{Call}
 use Rattle.pc_model.specs.declared.call.Reply.{Reply}
 use Rattle.pc_model.specs.declared.call.Entry.{Entry}
@@ -9,7 +10,10 @@ use Rattle.pc_model.specs.Replay.{fold_of, IsRight}
 use Rattle.pc_model.specs.History.{IsHistoryOf, IsNumberedFrom, AllOfPass, calls_of}
 use Rattle.pc_plain.specs.PlainCells.{PlainWords, cells_of}
 use Rattle.pc_model.specs.Forms.{Form}
-use Rattle.pc_model.specs.Trees.{plain, IsSearchTree}
+use Rattle.pc_model.specs.Trees.{Kind, plain, IsSearchTree}
+use Rattle.pc_model.specs.Cells.{Cells}
+use Rattle.pc_text.specs.declared.shape.ShapeLine.{ShapeLine}
+use Rattle.pc_text.specs.Shapes.{shape_of}
 
 -- one history of all clients: each call stands there once, in its client's order, each reply is what a
 -- sorted map gives at that place, and the pairs are the map that is left, by rising key
@@ -18,6 +22,23 @@ pub record IsOneHistory (script : List (List Call)) (history : List Entry) (pair
   pub right : IsRight history
   pub left : pairs ≡ fold_of history
   pub rising : IsRising pairs
+
+-- the shape of some sound cells of this kind of tree with these pairs
+pub record IsShapeOfPairs (kind : Kind) (pairs : Pairs) (lines : List ShapeLine) : Type 0 where
+  pub slots : ℕ
+  pub cells : Cells
+  pub search : IsSearchTree kind slots cells pairs
+  pub shape : lines ≡ shape_of cells 1 search.tree
+
+-- where a shape is asked for it is that of such a plain tree; else there is none
+abbrev pub IsShapeIfAsked : Bool → Pairs → Option (List ShapeLine) → Type 0
+IsShapeIfAsked true pairs shape = IsSomeAnd shape (IsShapeOfPairs plain pairs)
+IsShapeIfAsked false pairs shape = IsNone shape
+
+module _ {Z : Type 0} where
+  -- the lines of a shape, if there is one
+  abbrev pub lines_of : Option (Vec ShapeLine Z) → Option (List ShapeLine)
+  lines_of = option_map (λ lines. lines.items)
 
 -- cells that are sound for a plan, with fewer pairs than slots
 abbrev pub HasRoomFor : Form → PlainWords → Type 0

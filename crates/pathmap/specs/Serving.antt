@@ -1,6 +1,6 @@
 -- How a run of the program ends: what was printed where it ended well, and why where it didn't.
-use Rattle.std.specs.Prelude.{◌≡◌, ◌≢◌, ℕ, ◌<◌, ◌≤◌, ◌⊎◌, List, [], length, Option, None, Result, Ok, Err, IsErr}
-use Rattle.std.specs.Prelude.{IfSome}
+use Rattle.std.specs.Prelude.{◌≡◌, ℕ, ◌<◌, ◌≤◌, ◌⊎◌, ⊤, List, [], length, Option, Some, Result, Ok, Err, IsErr}
+use Rattle.std.specs.Prelude.{IfSome, IsSome, IsNone}
 use Rattle.std.specs.Io.KnownBytes.{Appends, IsAtEnd}
 use Rattle.pc_model.specs.declared.call.Entry.{Entry}
 use Rattle.pc_model.specs.Map.{Pairs}
@@ -17,7 +17,9 @@ use Rattle.pc_text.specs.FaultLine.{fault_line}
 use Rattle.pc_text.specs.Printed.{printed_run}
 use Rattle.pc_text.specs.Script.{script_of}
 use Rattle.pc_text.specs.ScriptValue.{ScriptValue}
-use Rattle.pathmap.specs.OneClient.{IsOneHistory}
+use Rattle.pc_text.specs.declared.shape.ShapeLine.{ShapeLine}
+use Rattle.pathmap.specs.declared.words.Options.{Options}
+use Rattle.pathmap.specs.OneClient.{IsOneHistory, IsShapeIfAsked}
 
 -- the bytes are no longer than an input may be, and spell this script
 abbrev pub SpellsScript : List ℕ → ScriptValue → Type 0
@@ -39,41 +41,48 @@ SpellsMany bytes = (script : ScriptValue) × SpellsScript bytes script × (1 < s
 abbrev pub IsRefused : List ℕ → Type 0
 IsRefused bytes = ((length bytes ≤ MOST_BYTES) × IsErr (script_of bytes)) ⊎ SpellsMany bytes
 
--- the input was read to its end and spells a script, of which this is one history with the pairs left
-pub record HasRunAll (input rest : Option (List ℕ)) (history : List Entry) (pairs : Pairs) : Type 0 where
+-- the words are taken, and the input was read to its end and spells a script, of which this is one history with
+-- the pairs left, and with the shape, where it was asked for
+pub record HasRunAll (asked : Option Options) (input rest : Option (List ℕ)) (history : List Entry) (pairs : Pairs)
+    (shape : Option (List ShapeLine)) : Type 0 where
+  pub options : Options
+  pub taken : asked ≡ Some options
   pub script : ScriptValue
   pub spelled : IfSome input (λ bytes. SpellsScript bytes script)
   pub at_end : IsAtEnd rest
   pub one : IsOneHistory script.calls history pairs
+  pub shaped : IsShapeIfAsked options.shape pairs shape
 
--- what the sink holds is what it held before and one history of all clients with the pairs that are left
-pub record PrintsOneHistory (input rest held held' : Option (List ℕ)) : Type 0 where
+-- what the sink holds is what it held before and one history of all clients, with the pairs that are left and the
+-- shape that was asked for
+pub record PrintsOneHistory (asked : Option Options) (input rest held held' : Option (List ℕ)) : Type 0 where
   pub history : List Entry
   pub pairs : Pairs
-  pub run : HasRunAll input rest history pairs
-  pub printed : Appends held held' (printed_run history pairs None)
+  pub shape : Option (List ShapeLine)
+  pub run : HasRunAll asked input rest history pairs shape
+  pub printed : Appends held held' (printed_run history pairs shape)
 
 -- a front of that was written before the sink failed
-pub record PrintsFront (input rest held held' : Option (List ℕ)) : Type 0 where
+pub record PrintsFront (asked : Option Options) (input rest held held' : Option (List ℕ)) : Type 0 where
   pub history : List Entry
   pub pairs : Pairs
-  pub run : HasRunAll input rest history pairs
-  pub front : AppendsFront held held' (printed_run history pairs None)
+  pub shape : Option (List ShapeLine)
+  pub run : HasRunAll asked input rest history pairs shape
+  pub front : AppendsFront held held' (printed_run history pairs shape)
 
--- why a run ends in a fault: there isn't exactly one word, the input is too long, it has a bad line or
--- more than one client, or the source failed; want of memory needs no cause, and the other faults don't
--- come
-abbrev pub IsCauseOf : ℕ → Option (List ℕ) → ℕ → ℕ → Fault → Type 0
-IsCauseOf words input faults faults' Usage = words ≢ 1
-IsCauseOf words input faults faults' NotBuilt = (words ≡ 1) × IfSome input SpellsMany
-IsCauseOf words input faults faults' Read = (words ≡ 1) × HasRisen faults faults'
-IsCauseOf words input faults faults' Memory = words ≡ 1
-IsCauseOf words input faults faults' (Script line kind) =
-    (words ≡ 1) × IfSome input (λ bytes. HasBadLine bytes line kind)
-IsCauseOf words input faults faults' TooLargeInput = (words ≡ 1) × IfSome input IsTooLong
-IsCauseOf words input faults faults' TooManySlots = ⊥
-IsCauseOf words input faults faults' (Slots client number) = ⊥
-IsCauseOf words input faults faults' (Numbers counter) = ⊥
+-- why a run ends in a fault: the words aren't taken; or they are, and the input is too long, it has a bad line or
+-- more than one client, or the source failed; want of memory needs no cause, and the other faults don't come
+abbrev pub IsCauseOf : Option Options → Option (List ℕ) → ℕ → ℕ → Fault → Type 0
+IsCauseOf asked input faults faults' Usage = IsNone asked
+IsCauseOf asked input faults faults' Memory = ⊤
+IsCauseOf asked input faults faults' NotBuilt = IsSome asked × IfSome input SpellsMany
+IsCauseOf asked input faults faults' Read = IsSome asked × HasRisen faults faults'
+IsCauseOf asked input faults faults' (Script line kind) =
+    IsSome asked × IfSome input (λ bytes. HasBadLine bytes line kind)
+IsCauseOf asked input faults faults' TooLargeInput = IsSome asked × IfSome input IsTooLong
+IsCauseOf asked input faults faults' TooManySlots = ⊥
+IsCauseOf asked input faults faults' (Slots client number) = ⊥
+IsCauseOf asked input faults faults' (Numbers counter) = ⊥
 
 -- the fault's line was written, whole or up to where the sink failed
 abbrev pub WritesFault : {K : Type 0} → (K → Option (List ℕ)) → (K → ℕ) → K → K → Fault → Type 0
@@ -87,15 +96,22 @@ pub record EndsInFault (status : ℕ) (IsCause WritesLine : Fault → Type 0) : 
   pub cause : IsCause fault
   pub line : WritesLine fault
 
+-- the run ends with this status, unless memory was wanting
+abbrev pub EndsUnlessMemory : ℕ → ℕ → Type 0
+EndsUnlessMemory wanted status = (status ≡ wanted) ⊎ (status ≡ status_of Memory)
+
 -- the run ends with this status, unless a read failed or memory was wanting
 abbrev pub EndsUnlessStopped : ℕ → ℕ → Type 0
 EndsUnlessStopped wanted status = (status ≡ wanted) ⊎ ((status ≡ status_of Read) ⊎ (status ≡ status_of Memory))
 
--- the bytes spell a script, of which this is one history with the pairs left
-pub record RunsBytes (bytes : List ℕ) (history : List Entry) (pairs : Pairs) : Type 0 where
+-- the bytes spell a script, of which this is one history with the pairs left, and with the shape, where it is asked
+-- for
+pub record RunsBytes (options : Options) (bytes : List ℕ) (history : List Entry) (pairs : Pairs)
+    (shape : Option (List ShapeLine)) : Type 0 where
   pub script : ScriptValue
   pub spelled : script_of bytes ≡ Ok script
   pub one : IsOneHistory script.calls history pairs
+  pub shaped : IsShapeIfAsked options.shape pairs shape
 
 -- why bytes are not run: they have a bad line, or more than one client, or memory was wanting
 abbrev pub IsBytesFault : List ℕ → Fault → Type 0

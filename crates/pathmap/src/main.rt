@@ -9,6 +9,7 @@ ghost use Rattle.pc_text.specs.Fault.{status_of};
 mod one_client;
 mod reading;
 mod serve;
+mod words;
 
 use pc_edge::{OpenGate, Sink, StdSink, StdSource};
 use pc_text::Fault;
@@ -62,3 +63,5 @@ fn words_of(alloc: Global, rt: &HostRuntime) -> io::Result<Vec<String>> {
 
 #[cfg(test)]
 mod tests;
+#[cfg(test)]
+mod words_tests;

@@ -3,38 +3,68 @@ ghost use Rattle.std.specs.Prelude.{◌≡◌, ◌+◌, ◌<◌, ◌≤◌, ◌�
 ghost use Rattle.pc_model.specs.Calls.{is_put, puts_in};
 ghost use Rattle.pc_model.specs.Counts.{one_if};
 ghost use Rattle.pc_text.specs.ScriptFacts.{IsCallInRange};
-ghost use Rattle.pc_plain.specs.PlainCells.{IsEmptyTree};
-ghost use Rattle.pc_model.specs.Trees.{plain};
+ghost use Rattle.pc_plain.specs.PlainCells.{IsEmptyTree, cells_of};
+ghost use Rattle.pc_plain.specs.PlainPairs.{SpellsTree};
+ghost use Rattle.pc_model.specs.Map.{Pairs};
+ghost use Rattle.pc_model.specs.Trees.{plain, IsSearchTree};
 ghost use Rattle.pc_model.specs.TreeForms.{tree_form};
 ghost use Rattle.pc_plan.specs.Quiet.{AsksForNoExchange};
 ghost use Rattle.pc_plain.specs.PlainRuns.{HoldsPairs, RunsRight};
-ghost use Rattle.pathmap.specs.OneClient.{IsOneHistory, HasRoomFor, AnswersAs, HasRun};
+ghost use Rattle.pathmap.specs.OneClient.{IsOneHistory, IsShapeIfAsked, lines_of};
+ghost use Rattle.pathmap.specs.OneClient.{HasRoomFor, AnswersAs, HasRun};
 
+use crate::words::Options;
 use pc_bst::{BstGet, BstPut, BstRemove};
 use pc_model::{Call, Entry, Memory, Reply};
 use pc_order::{CeilPlan, FloorPlan, plans_change_nothing};
-use pc_plain::{PlainCells, pairs, quiet_plans_change_nothing, run_plan};
+use pc_plain::{PlainCells, pairs, quiet_plans_change_nothing, run_plan, shape};
 use pc_plan::Plan;
-use pc_text::MOST_COMMANDS;
+use pc_text::{MOST_COMMANDS, ShapeLine};
 use std::alloc::Global;
 
-/// What a run leaves: its history, and the pairs of the map by rising key.
+/// What a run leaves: its history, the pairs of the map by rising key, and the tree's shape, where it
+/// was asked for.
 #[derive(Debug, Drop)]
 pub struct Run {
     pub history: Vec<Entry>,
     pub pairs: Vec<(u64, u64)>,
+    pub shape: Option<Vec<ShapeLine>>,
 }
 
 /// Runs the calls of client 1 on a map of its own.
-pub fn run_alone(alloc: Global, calls: &[Call]) -> Result<Run, Memory>
+pub fn run_alone(alloc: Global, options: Options, calls: &[Call]) -> Result<Run, Memory>
     requires few { length calls.now ≤ MOST_COMMANDS }
     requires in_range { All IsCallInRange calls.now }
-    ensures { IfOk result (λ run. IsOneHistory (calls.now ∷ []) run.history.items run.pairs.items) }
+    ensures one { IfOk result (λ run. IsOneHistory (calls.now ∷ []) run.history.items run.pairs.items) }
+    ensures shape { IfOk result (λ run. IsShapeIfAsked options.shape run.pairs.items (lines_of run.shape)) }
 {
     let mut cells = PlainCells::new(alloc, count_puts(calls) + 1)?;
     let history = run_calls(alloc, &mut cells, calls)?;
     let pairs = pairs(alloc, &cells)?;
-    Ok(Run { history, pairs })
+    let shape = shape_if_asked(alloc, options, &cells)?;
+    Ok(Run {
+        history,
+        pairs,
+        shape,
+    })
+}
+
+// The shape of the tree, where it is asked for.
+fn shape_if_asked(
+    alloc: Global,
+    options: Options,
+    cells: &PlainCells,
+) -> Result<Option<Vec<ShapeLine>>, Memory>
+    requires { SpellsTree cells.now }
+    ensures { IfOk result (λ shape. (pairs : Pairs) → IsSearchTree plain cells.now.slots (cells_of cells.now) pairs
+        → IsShapeIfAsked options.shape pairs (lines_of shape)) }
+{
+    if options.shape {
+        let lines = shape(alloc, cells)?;
+        Ok(Some(lines))
+    } else {
+        Ok(None)
+    }
 }
 
 // How many of the calls are puts: each takes at most one slot.

@@ -1,16 +1,20 @@
 //! The top call: it reads a script, runs it, and prints the run or the line of a fault.
-ghost use Rattle.std.specs.Prelude.{◌≡◌, ◌≢◌, ◌+◌, ◌≤◌, length, IfSome, IfOk, IfErr};
+ghost use Rattle.std.specs.Prelude.{◌≡◌, ◌≢◌, ◌+◌, ◌≤◌, false, length, IfOk, IfErr};
+ghost use Rattle.std.specs.Prelude.{IfSome, IsSome, IsNone};
+ghost use Rattle.pathmap.specs.Words.{options_of};
 ghost use Rattle.pathmap.specs.Reading.{TakesAtMost};
-ghost use Rattle.pathmap.specs.OneClient.{IsOneHistory};
+ghost use Rattle.pathmap.specs.OneClient.{IsOneHistory, IsShapeIfAsked, lines_of};
 ghost use Rattle.pathmap.specs.Serving.{PrintsOneHistory, PrintsFront, HasRunAll, RunsBytes};
 ghost use Rattle.pathmap.specs.Serving.{EndsInFault, IsCauseOf, IsBytesFault, WritesFault};
-ghost use Rattle.pathmap.specs.Serving.{IsTooLong, IsRefused, EndsUnlessStopped};
+ghost use Rattle.pathmap.specs.Serving.{IsTooLong, IsRefused, EndsUnlessMemory, EndsUnlessStopped};
 ghost use Rattle.pc_edge.specs.Faults.{HasRisen};
 ghost use Rattle.pc_text.specs.Fault.{status_of};
+ghost use Rattle.pc_text.specs.Printed.{listed};
 ghost use Rattle.pc_text.specs.ScriptFacts.{AreFew, AreInRange};
 
 use crate::one_client::{Run, run_alone};
 use crate::reading::read_all;
+use crate::words::{Options, options_of};
 use pc_edge::{Failed, Gate, Sink, Source};
 use pc_model::{Call, Memory};
 use pc_text::{Extras, Fault, MOST_BYTES, Script, print_fault, print_run, read_script};
@@ -24,12 +28,6 @@ pub const PRINTED: u8 = 0;
 /// The status of a run while whose printing the sink failed.
 pub const STOPPED: u8 = 5;
 
-/// What is printed of a run besides its history and its pairs: nothing.
-const NO_EXTRAS: Extras = Extras {
-    shape: None,
-    summary: false,
-};
-
 /// How a run ended.
 #[derive(Clone, Copy, Debug, PartialEq, Eq)]
 pub struct Outcome {
@@ -37,12 +35,13 @@ pub struct Outcome {
     pub status: u8,
 }
 
-/// Reads a script from the source, runs it, and prints its history and the pairs that are left.
+/// Reads a script from the source, runs it, and prints its history, the pairs that are left and, under
+/// `--shape`, the shape of the tree.
 ///
-/// Status 0: the run was printed whole. 2: there isn't exactly one word. 3: the input spells no script,
-/// or one of more than one client. 4: the source failed. 5: the sink failed while the run was printed.
-/// 6: the input has more than 4,194,304 bytes. 9: memory was wanting, before the first byte. At each
-/// status but 0 and 5 the line of the fault is written.
+/// Status 0: the run was printed whole. 2: the command doesn't take the words. 3: the input spells no
+/// script, or one of more than one client. 4: the source failed. 5: the sink failed while the run was
+/// printed. 6: the input has more than 4,194,304 bytes. 9: memory was wanting, before the first byte. At
+/// each status but 0 and 5 the line of the fault is written.
 pub fn serve<R: Threads + Wait + Sync, S: Source, K: Sink, G: Gate + Sync>(
     _rt: &R,
     alloc: Global,
@@ -51,30 +50,32 @@ pub fn serve<R: Threads + Wait + Sync, S: Source, K: Sink, G: Gate + Sync>(
     sink: &mut K,
     _gate: &G,
 ) -> Outcome
-    // Printed is one history of all clients, with the pairs that are left.
+    // Printed is one history of all clients, with the pairs that are left and the shape that was asked for.
     ensures ok { result.status ≡ PRINTED →
-        PrintsOneHistory (S.left source.old) (S.left source.new) (K.held sink.old) (K.held sink.new) }
+        PrintsOneHistory (options_of words.now)
+        (S.left source.old) (S.left source.new) (K.held sink.old) (K.held sink.new) }
 
     // The sink failed while the run was printed.
     ensures stopped { result.status ≡ STOPPED →
-        PrintsFront (S.left source.old) (S.left source.new) (K.held sink.old) (K.held sink.new) }
+        PrintsFront (options_of words.now)
+        (S.left source.old) (S.left source.new) (K.held sink.old) (K.held sink.new) }
     ensures stopped_cause { result.status ≡ STOPPED → HasRisen (K.faults sink.old) (K.faults sink.new) }
 
     // Each other status is that of a fault with its cause, whose line was written.
     ensures fault { result.status ≢ PRINTED → result.status ≢ STOPPED →
         EndsInFault result.status
-        (IsCauseOf (length words.now) (S.left source.old) (S.faults source.old) (S.faults source.new))
+        (IsCauseOf (options_of words.now) (S.left source.old) (S.faults source.old) (S.faults source.new))
         (WritesFault K.held K.faults sink.old sink.new) }
-    ensures usage { length words.now ≢ 1 → result.status ≡ status_of Fault.Usage }
-    ensures too_large { length words.now ≡ 1 →
+    ensures usage { IsNone (options_of words.now) → EndsUnlessMemory (status_of Fault.Usage) result.status }
+    ensures too_large { IsSome (options_of words.now) →
         IfSome (S.left source.old) (λ bytes. IsTooLong bytes →
         EndsUnlessStopped (status_of Fault.TooLargeInput) result.status) }
-    ensures refused { length words.now ≡ 1 →
+    ensures refused { IsSome (options_of words.now) →
         IfSome (S.left source.old) (λ bytes. IsRefused bytes →
         EndsUnlessStopped (status_of Fault.NotBuilt) result.status) }
 
-    // Without exactly one word nothing is read, and else at most one byte past the limit.
-    ensures unread { length words.now ≢ 1 → source.new ≡ source.old }
+    // Where the words aren't taken nothing is read, and else at most one byte past the limit.
+    ensures unread { IsNone (options_of words.now) → source.new ≡ source.old }
     ensures few { TakesAtMost (MOST_BYTES + 1) (S.left source.old) (S.left source.new) }
     ensures source_never_falls { S.faults source.old ≤ S.faults source.new }
     ensures sink_never_falls { K.faults sink.old ≤ K.faults sink.new }
@@ -83,35 +84,44 @@ pub fn serve<R: Threads + Wait + Sync, S: Source, K: Sink, G: Gate + Sync>(
         Ok(run) => run,
         Err(fault) => return refuse(sink, &fault),
     };
-    match print_run(sink, &run.history, &run.pairs, NO_EXTRAS) {
+    match print_run(sink, &run.history, &run.pairs, extras_of(&run)) {
         Ok(()) => Outcome { status: PRINTED },
         Err(Failed) => Outcome { status: STOPPED },
     }
 }
 
-// Reads the script and runs it. Nothing is printed.
+// What is printed of a run besides its history and its pairs.
+fn extras_of(run: &Run) -> Extras<'_>
+    ensures shape { listed result.shape ≡ lines_of run.now.shape }
+    ensures no_summary { result.summary ≡ false }
+{
+    Extras {
+        shape: run.shape.as_deref(),
+        summary: false,
+    }
+}
+
+// Reads the words and the script, and runs it. Nothing is printed.
 fn run_input<S: Source>(alloc: Global, words: &[String], source: &mut S) -> Result<Run, Fault>
-    ensures ok { IfOk result
-        (λ run. HasRunAll (S.left source.old) (S.left source.new) run.history.items run.pairs.items) }
-    ensures one_word { IfOk result (λ _. length words.now ≡ 1) }
+    ensures ok { IfOk result (λ run. HasRunAll (options_of words.now)
+        (S.left source.old) (S.left source.new) run.history.items run.pairs.items (lines_of run.shape)) }
     ensures not_refused { IfOk result (λ _. IfSome (S.left source.old) (λ bytes. IsRefused bytes → ⊥)) }
     ensures cause { IfErr result
-        (IsCauseOf (length words.now) (S.left source.old) (S.faults source.old) (S.faults source.new)) }
-    ensures unread { length words.now ≢ 1 → source.new ≡ source.old }
+        (IsCauseOf (options_of words.now) (S.left source.old) (S.faults source.old) (S.faults source.new)) }
+    ensures unread { IsNone (options_of words.now) → source.new ≡ source.old }
     ensures few { TakesAtMost (MOST_BYTES + 1) (S.left source.old) (S.left source.new) }
     ensures never_falls { S.faults source.old ≤ S.faults source.new }
 {
-    if words.len() != 1 {
-        return Err(Fault::Usage);
-    }
+    let options = options_of(alloc, words)?;
     let bytes = read_all(alloc, source)?;
-    run_bytes(alloc, &bytes)
+    run_bytes(alloc, options, &bytes)
 }
 
 // Runs the script that bytes spell.
-fn run_bytes(alloc: Global, bytes: &[u8]) -> Result<Run, Fault>
+fn run_bytes(alloc: Global, options: Options, bytes: &[u8]) -> Result<Run, Fault>
     requires { length bytes.now ≤ MOST_BYTES }
-    ensures ok { IfOk result (λ run. RunsBytes bytes.now run.history.items run.pairs.items) }
+    ensures ok { IfOk result
+        (λ run. RunsBytes options bytes.now run.history.items run.pairs.items (lines_of run.shape)) }
     ensures not_refused { IfOk result (λ _. IsRefused bytes.now → ⊥) }
     ensures cause { IfErr result (IsBytesFault bytes.now) }
 {
@@ -119,19 +129,20 @@ fn run_bytes(alloc: Global, bytes: &[u8]) -> Result<Run, Fault>
     if script.clients > 1 {
         return Err(Fault::NotBuilt);
     }
-    let run = run_script(alloc, &script)?;
+    let run = run_script(alloc, options, &script)?;
     Ok(run)
 }
 
 // Runs a script of one client.
-fn run_script(alloc: Global, script: &Script) -> Result<Run, Memory>
+fn run_script(alloc: Global, options: Options, script: &Script) -> Result<Run, Memory>
     requires one_list { length script.now.calls ≡ 1 }
     requires few { AreFew script.now.calls }
     requires in_range { AreInRange script.now.calls }
-    ensures { IfOk result (λ run. IsOneHistory script.now.calls run.history.items run.pairs.items) }
+    ensures one { IfOk result (λ run. IsOneHistory script.now.calls run.history.items run.pairs.items) }
+    ensures shape { IfOk result (λ run. IsShapeIfAsked options.shape run.pairs.items (lines_of run.shape)) }
 {
     let calls: &[Call] = &script.calls[0];
-    run_alone(alloc, calls)
+    run_alone(alloc, options, calls)
 }
 
 /// Writes a fault's line, and ends with its status whether or not it was written.

@@ -26,7 +26,7 @@ impl Gate for CountingGate {
 }
 
 // A source whose reads give at most so many bytes, and fail at the listed numbers.
-fn source_of(bytes: Vec<u8>, piece: usize, fails: Vec<u64>) -> MemorySource
+pub(crate) fn source_of(bytes: Vec<u8>, piece: usize, fails: Vec<u64>) -> MemorySource
     requires { 1 ≤ piece }
 {
     MemorySource {
@@ -66,18 +66,18 @@ fn run<R: Threads + Wait + Sync>(
 
 /// How a run ends: its status, how many reads there were, and what is written, all of it or its first part.
 #[derive(Clone, Copy)]
-struct Ending<'a> {
-    status: u8,
-    reads: u64,
-    text: &'a [u8],
-    is_whole: bool,
+pub(crate) struct Ending<'a> {
+    pub(crate) status: u8,
+    pub(crate) reads: u64,
+    pub(crate) text: &'a [u8],
+    pub(crate) is_whole: bool,
 }
 
 /// A sink's room, and how many bytes a write takes.
-type Room = (usize, usize);
+pub(crate) type Room = (usize, usize);
 
 // Whether a run ends so, without a call of the gate.
-fn ends_so<R: Threads + Wait + Sync>(
+pub(crate) fn ends_so<R: Threads + Wait + Sync>(
     rt: &R,
     alloc: Global,
     words: &[&str],
@@ -103,7 +103,7 @@ fn is_text(held: &[u8], ending: Ending) -> bool {
 }
 
 // Stops a test where a row of its table is not so, and names the row.
-fn all_hold(rt: &impl Abort, wrong: Option<usize>) {
+pub(crate) fn all_hold(rt: &impl Abort, wrong: Option<usize>) {
     assert_eq!(rt; wrong, None);
 }
 
@@ -225,7 +225,6 @@ type Faulty = (&'static [&'static str], u64, usize, u8, u64, &'static str);
 
 const FAULTY: &[Faulty] = &[
     (&["pathmap", "--tree"], 0, 1000, 2, 0, "fault usage\n"),
-    (&[], 0, 1000, 2, 0, "fault usage\n"),
     (&["pathmap", "--tree"], 0, 3, 2, 0, "fau"),
     (&["pathmap"], 2, 1000, 4, 2, "fault read\n"),
     (&["pathmap"], 6, 1000, 4, 6, "fault read\n"),

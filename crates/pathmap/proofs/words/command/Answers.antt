@@ -1,0 +1,20 @@
+-- Step by step the command gets what its definition has.
+use Rattle.std.proofs.Common.{rules, ◌≡◌, ◌∙◌, true, codes, ap, ap₂}
+use Rattle.std.proofs.lemmas.Result.{IfOk-weaker}
+use Rattle.clap.specs.Words.{App, app_of, new_app, rule_of, with_rule}
+use Rattle.clap.specs.Simple.{Shape, app_of_fields, on_top}
+use Rattle.pathmap.specs.Words.{pathmap, shape_flag}
+use Rattle.pathmap.proofs.words.command.Goals as goal
+
+abbrev without_help : App → App
+without_help = on_top (λ (s : Shape). record s { disable_help_flag = true })
+
+pub returns : goal.returns
+unfolding pathmap
+returns c =
+    let flag : rule_of c.action-shape.result ≡ shape_flag = search rules in
+    let no_help : app_of c.disable_help_flag.result ≡ without_help (app_of c.new-2.result) =
+    ap app_of_fields c.disable_help_flag.ensures in
+    let start : app_of c.disable_help_flag.result ≡ without_help (new_app (codes "pathmap")) =
+    no_help ∙ ap without_help c.new-2.ensures.app in
+    IfOk-weaker c.arg.result _ _ (λ command adds. adds.shape (search rules) ∙ ap₂ with_rule start flag) c.arg.ensures

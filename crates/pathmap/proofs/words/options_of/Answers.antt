@@ -1,0 +1,27 @@
+-- The command is the one of the definition, so the parse is that of the definition.
+use Rattle.std.proofs.Common.{◌≡◌, ◌∙◌, List, [], Some, map, sym, ap, subst}
+use Rattle.std.specs.Prelude.{string_bytes}
+use Rattle.clap.specs.Words.{App, Text, app_of, fault_of, matches_of, is_simple, is_simple_and_free, kind_of, HasKind}
+use Rattle.pathmap.specs.Words.{pathmap, options_of, IsWordsFault}
+use Rattle.pathmap.proofs.Taking.{pathmap_is_simple, pathmap_has_matches, asked_where_taken, why_refused}
+use Rattle.pathmap.proofs.words.options_of.Goals as goal
+
+pub returns-in-Ok-clause-taken : goal.returns-in-Ok-clause-taken
+returns-in-Ok-clause-taken c =
+    let words : List Text = map string_bytes c.args.words.now in
+    let is : app_of c.in_ok-command.command ≡ pathmap = c.in_ok-command.ensures in
+    let taken : fault_of pathmap words ≡ [] = ap (λ (app : App). fault_of app words) (sym is)
+    ∙ c.in-Ok.ensures.kinds (ap is_simple_and_free is ∙ pathmap_is_simple) in
+    let rows = (c.in-Ok.ensures.matches (ap is_simple is ∙ pathmap_has_matches)).0
+    ∙ ap (λ (app : App). matches_of app words) is in
+    asked_where_taken words _ taken rows ∙ ap Some (sym c.options_in.ensures)
+
+pub returns-in-Err-clause-cause : goal.returns-in-Err-clause-cause
+returns-in-Err-clause-cause c =
+    let words : List Text = map string_bytes c.args.words.now in
+    let is : app_of c.in_ok-command.command ≡ pathmap = c.in_ok-command.ensures in
+    let kinds : HasKind (fault_of pathmap words) c.in-Err.error =
+    subst (λ (app : App). HasKind (fault_of app words) c.in-Err.error) is
+    (c.in-Err.ensures.kinds (ap is_simple_and_free is ∙ pathmap_is_simple)) in
+    subst (IsWordsFault (options_of c.args.words.now)) (sym c.fault_of.ensures)
+    (why_refused (kind_of c.in-Err.error) words kinds)

@@ -1,0 +1,116 @@
+//! What `serve` answers for the words of its command line.
+use super::tests::{Ending, all_hold, ends_so, source_of};
+use super::*;
+use std::sync::Wait;
+use std::thread::Threads;
+
+/// What two puts print without a shape, and with one.
+const PLAIN: &str = "1 1.1 put 2 20 = new\n2 1.2 put 1 10 = new\nleft 2\n1 10\n2 20\nend\n";
+
+const SHAPED: &str =
+    "1 1.1 put 2 20 = new\n2 1.2 put 1 10 = new\nleft 2\n1 10\n2 20\nshape 2\n1 2 2 1\n2 1 1 0\nend\n";
+
+/// The words, the status, the reads that there were, and the output.
+type Command = (&'static [&'static str], u8, u64, &'static str);
+
+const COMMANDS: &[Command] = &[
+    (&["pathmap"], 0, 2, PLAIN),
+    (&["pathmap", "--shape"], 0, 2, SHAPED),
+    // A program's name that looks like an option is none, and there may be no name.
+    (&["--shape"], 0, 2, PLAIN),
+    (&[], 0, 2, PLAIN),
+    // Behind `--` no option stands, and the command takes no other words.
+    (&["pathmap", "--"], 0, 2, PLAIN),
+    (&["pathmap", "--shape", "--"], 0, 2, SHAPED),
+    (&["pathmap", "--", "--shape"], 2, 0, "fault usage\n"),
+    (&["pathmap", "--", "--"], 2, 0, "fault usage\n"),
+    // A flag has no value and stands once.
+    (&["pathmap", "--shape=x"], 2, 0, "fault usage\n"),
+    (&["pathmap", "--shape="], 2, 0, "fault usage\n"),
+    (&["pathmap", "--shape", "--shape"], 2, 0, "fault usage\n"),
+    // There are no other words.
+    (&["pathmap", "shape"], 2, 0, "fault usage\n"),
+    (&["pathmap", "--shape", "x"], 2, 0, "fault usage\n"),
+    (&["pathmap", ""], 2, 0, "fault usage\n"),
+    (&["pathmap", "--sha"], 2, 0, "fault usage\n"),
+    (&["pathmap", "-s"], 2, 0, "fault usage\n"),
+    (&["pathmap", "--help"], 2, 0, "fault usage\n"),
+    (&["pathmap", "--version"], 2, 0, "fault usage\n"),
+    (&["pathmap", "--tree", "red"], 2, 0, "fault usage\n"),
+];
+
+/// The input, the reads that there were, and the output with a shape.
+const SHAPES: &[(&str, u64, &str)] = &[
+    ("", 1, "left 0\nshape 0\nend\n"),
+    // The successor is the right child itself.
+    (
+        "put 2 20\nput 1 10\nput 3 30\nremove 2\n",
+        2,
+        "1 1.1 put 2 20 = new\n2 1.2 put 1 10 = new\n3 1.3 put 3 30 = new\n4 1.4 remove 2 = 20\n\
+         left 2\n1 10\n3 30\nshape 2\n1 3 2 1\n2 1 1 0\nend\n",
+    ),
+    // The successor lies deeper and has a right child.
+    (
+        "put 10 10\nput 5 5\nput 20 20\nput 15 15\nput 25 25\nput 17 17\nremove 10\n",
+        2,
+        "1 1.1 put 10 10 = new\n2 1.2 put 5 5 = new\n3 1.3 put 20 20 = new\n\
+         4 1.4 put 15 15 = new\n5 1.5 put 25 25 = new\n6 1.6 put 17 17 = new\n\
+         7 1.7 remove 10 = 10\nleft 5\n5 5\n15 15\n17 17\n20 20\n25 25\n\
+         shape 3\n1 15 3 -1\n2 5 1 0\n2 20 2 0\n3 17 1 0\n3 25 1 0\nend\n",
+    ),
+];
+
+fn command_ends_so<R: Threads + Wait + Sync>(
+    rt: &R,
+    alloc: Global,
+    words: &[&str],
+    input: &str,
+    ending: Ending,
+) -> bool {
+    match Vec::from_slice(alloc, input.as_bytes()) {
+        Ok(bytes) => {
+            let source = source_of(bytes, 1000, Vec::new(alloc));
+            ends_so(rt, alloc, words, source, (1000, 1000), ending)
+        }
+        Err(_) => false,
+    }
+}
+
+fn ending_of(status: u8, reads: u64, output: &str) -> Ending {
+    Ending {
+        status,
+        reads,
+        text: output.as_bytes(),
+        is_whole: true,
+    }
+}
+
+fn first_other_command<R: Threads + Wait + Sync>(rt: &R, alloc: Global) -> Option<usize> {
+    for (i, (words, status, reads, output)) in COMMANDS.iter().enumerate() {
+        let ending = ending_of(*status, *reads, output);
+        if !command_ends_so(rt, alloc, words, "put 2 20\nput 1 10\n", ending) {
+            return Some(i);
+        }
+    }
+    None
+}
+
+fn first_other_shape<R: Threads + Wait + Sync>(rt: &R, alloc: Global) -> Option<usize> {
+    for (i, (input, reads, output)) in SHAPES.iter().enumerate() {
+        let ending = ending_of(0, *reads, output);
+        if !command_ends_so(rt, alloc, &["pathmap", "--shape"], input, ending) {
+            return Some(i);
+        }
+    }
+    None
+}
+
+#[test]
+fn each_command_line_has_its_status_and_output(rt: HostRuntime) {
+    all_hold(&rt, first_other_command(&rt, rt.alloc()));
+}
+
+#[test]
+fn each_tree_has_its_shape(rt: HostRuntime) {
+    all_hold(&rt, first_other_shape(&rt, rt.alloc()));
+}
