@@ -6,7 +6,7 @@ use pc_model::{Field, Side};
 use pc_plan::Told;
 
 /// What was told of a node. Where a link names no node it is node 0, whose height is 0.
-#[derive(Clone, Copy, Debug, PartialEq, Eq)]
+#[derive(Clone, Copy)]
 pub struct Looked {
     /// The node.
     pub node: u32,
@@ -36,7 +36,7 @@ pub const MISSING: Looked = Looked {
 };
 
 /// What a look waits for.
-#[derive(Clone, Copy, Debug, PartialEq, Eq)]
+#[derive(Clone, Copy)]
 pub enum Unread {
     /// The version of its node.
     Version,
@@ -53,7 +53,7 @@ pub enum Unread {
 }
 
 /// A look at a node: what it was told so far, and what it waits for.
-#[derive(Clone, Copy, Debug, PartialEq, Eq)]
+#[derive(Clone, Copy)]
 pub struct Look {
     /// What it was told.
     pub seen: Looked,
@@ -62,7 +62,7 @@ pub struct Look {
 }
 
 /// What a look does next.
-#[derive(Clone, Copy, Debug, PartialEq, Eq)]
+#[derive(Clone, Copy)]
 pub enum LookStep {
     /// It reads this field of its node.
     Read(Field),

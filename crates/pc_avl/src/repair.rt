@@ -23,7 +23,7 @@ use pc_model::{Field, Reply, Side};
 use pc_plan::{Above, Change, SENTINEL, Step, Told, Turn, Walk, leads_back, node_of};
 
 /// What a repair is of.
-#[derive(Clone, Copy, Debug, PartialEq, Eq)]
+#[derive(Clone, Copy)]
 pub enum Aim {
     /// The node with a key.
     Exact,
@@ -32,7 +32,7 @@ pub enum Aim {
 }
 
 /// A node that was left by one of its links, and its key.
-#[derive(Clone, Copy, Debug, PartialEq, Eq)]
+#[derive(Clone, Copy)]
 pub struct Upper {
     /// The node.
     pub above: Above,
@@ -42,7 +42,7 @@ pub struct Upper {
 
 /// Which node is looked at: the one that is repaired, or one below it. The child is that on the side with
 /// the greater height.
-#[derive(Clone, Copy, Debug, PartialEq, Eq)]
+#[derive(Clone, Copy)]
 pub enum Place {
     /// The node.
     Node,
@@ -61,7 +61,7 @@ pub enum Place {
 }
 
 /// Where a repair is.
-#[derive(Clone, Copy, Debug, PartialEq, Eq)]
+#[derive(Clone, Copy)]
 pub enum RepairPhase {
     /// On its walk to the key.
     Walking,
@@ -76,7 +76,7 @@ pub enum RepairPhase {
 }
 
 /// How a node comes to its place.
-#[derive(Clone, Copy, Debug, PartialEq, Eq)]
+#[derive(Clone, Copy)]
 enum Sought {
     /// It stands there.
     Known,
@@ -87,7 +87,7 @@ enum Sought {
 }
 
 /// A repair: how it goes to its node, and what it was told of the nodes that it has met.
-#[derive(Debug, Drop)]
+#[derive(Drop)]
 pub struct Repair {
     /// What it is of.
     pub aim: Aim,

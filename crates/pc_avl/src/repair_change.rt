@@ -103,7 +103,7 @@ fn turn(change: &mut Change, node: &Looked, side: Side, link: u32, parent: u32, 
 }
 
 /// The numbers of the nodes that come to hang on a side and on the other.
-#[derive(Clone, Copy, Debug, PartialEq, Eq)]
+#[derive(Clone, Copy)]
 pub struct Ends {
     near: u32,
     far: u32,

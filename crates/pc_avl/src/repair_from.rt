@@ -10,7 +10,7 @@ use std::marker::Model;
 /// The plan of the repair of the least key from a number up, which may be any. It answers `None` where there is no
 /// such key, `Pair` of the key and 0 where its node is in balance, `Was` of the key where it changed the
 /// node's height or rotated it, and `Value` of the key of a node below that is to be repaired first.
-#[derive(Debug, Drop)]
+#[derive(Drop)]
 pub struct AvlRepairFrom {
     repair: Repair,
 }

@@ -10,7 +10,7 @@ use std::marker::Model;
 /// The plan of the repair of a key, any number. It answers `None` where the key isn't there or its node is in
 /// balance, `Was` of the key where it changed the node's height or rotated it, and `Value` of the key of a
 /// node below that is to be repaired first.
-#[derive(Debug, Drop)]
+#[derive(Drop)]
 pub struct AvlRepair {
     repair: Repair,
 }
