@@ -1,2 +1,3 @@
-mod Seeking
 pub mod NoSlots
+pub mod RepairSlots
+mod Seeking

@@ -56,10 +56,14 @@ pub fn repairs_end_by_cases()
 {}
 
 /// Whatever it is told, a put asks for a fresh node only where its reply is that the key is new, and a remove
-/// for none.
+/// and both repairs for none.
 pub fn slots_are_for_new_keys()
     ensures put { WantsSlotForNew ⟦<AvlPut as Plan>⟧.start ⟦<AvlPut as Plan>⟧.moves
         ⟦<AvlPut as Plan>⟧.can_call }
     ensures remove { WantsNoSlot ⟦<AvlRemove as Plan>⟧.start ⟦<AvlRemove as Plan>⟧.moves
         ⟦<AvlRemove as Plan>⟧.can_call }
+    ensures repair { WantsNoSlot ⟦<AvlRepair as Plan>⟧.start ⟦<AvlRepair as Plan>⟧.moves
+        ⟦<AvlRepair as Plan>⟧.can_call }
+    ensures repair_from { WantsNoSlot ⟦<AvlRepairFrom as Plan>⟧.start ⟦<AvlRepairFrom as Plan>⟧.moves
+        ⟦<AvlRepairFrom as Plan>⟧.can_call }
 {}
