@@ -3,9 +3,9 @@
 #![tactic(auto)]
 
 mod answer;
-mod pay;
+mod payment;
 mod state;
 
-pub use pay::pay_by;
+pub use payment::pay;
 pub use pc_avl::TreeKind;
 pub use state::{LockedState, apply, open_state};

@@ -11,6 +11,7 @@ ghost use Rattle.pc_locked.specs.Repairs.{IsInFullBalance, IsRepair, KeepsPairs,
 ghost use Rattle.pc_locked.specs.States.{IsSameMap};
 
 use crate::state::LockedState;
+use pc_avl::{AvlRepair, AvlRepairFrom, repairs_end_by_cases, slots_are_for_new_keys};
 use pc_model::{Owed, Owing, Reply};
 use pc_plain::{PlainCells, run_owed};
 use pc_plan::Plan;
@@ -32,9 +33,32 @@ fn repair_by<P: Plan<Call = u64>>(cells: &mut PlainCells, key: u64, owed: &mut O
     }
 }
 
+/// Repairs what is owed first, a key or the nearest key from a number up, by one run of its plan, and answers whether
+/// anything was owed. Where nothing was, a balanced tree stores the true heights of its nodes, and those of the two
+/// sides of each differ by at most one.
+pub fn pay(state: &mut LockedState) -> bool
+    // False exactly where nothing is owed.
+    ensures owing { result ≡ is_some (first_owed state.old.owed.keys state.old.owed.from) }
+    ensures paid { IfSome (first_owed state.old.owed.keys state.old.owed.from)
+        (Repairs
+        (RunsFor ⟦<AvlRepair as Plan>⟧.start ⟦<AvlRepair as Plan>⟧.moves
+        ⟦<AvlRepair as Plan>⟧.form ⟦<AvlRepair as Plan>⟧.terms)
+        (RunsFor ⟦<AvlRepairFrom as Plan>⟧.start ⟦<AvlRepairFrom as Plan>⟧.moves
+        ⟦<AvlRepairFrom as Plan>⟧.form ⟦<AvlRepairFrom as Plan>⟧.terms) state.old state.new) }
+    ensures entries { state.new.entries ≡ state.old.entries }
+    ensures pairs { KeepsPairs state.old.kind state.old.cells state.new.cells }
+    ensures same { IsSameMap state.old state.new }
+    ensures stays { OnFalse result (state.new ≡ state.old) }
+    ensures balanced { OnFalse result (state.old.kind ≡ Avl → IsInFullBalance state.new.cells) }
+{
+    repairs_end_by_cases();
+    slots_are_for_new_keys();
+    pay_by::<AvlRepair, AvlRepairFrom>(state)
+}
+
 /// Repairs what is owed first, by a plan for a key and a plan for what there is from a number on, and answers
 /// whether anything was owed.
-pub fn pay_by<R: Plan<Call = u64>, F: Plan<Call = u64>>(state: &mut LockedState) -> bool
+fn pay_by<R: Plan<Call = u64>, F: Plan<Call = u64>>(state: &mut LockedState) -> bool
     requires key { IsRepair R.start R.moves R.can_call R.terms R.form (λ _. 0) }
     requires from { IsRepair F.start F.moves F.can_call F.terms F.form (λ k. k) }
     ensures owing { result ≡ is_some (first_owed state.old.owed.keys state.old.owed.from) }

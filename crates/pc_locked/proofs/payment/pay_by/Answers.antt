@@ -4,7 +4,7 @@ use Rattle.pc_avl.specs.declared.tree_kind.TreeKind.TheVariants.{Avl}
 use Rattle.pc_locked.specs.Repairs.{IsInFullBalance, RunsFor}
 use Rattle.pc_locked.specs.States.{MapState}
 use Rattle.pc_locked.proofs.Paying.{balanced_when_free, paid_first}
-use Rattle.pc_locked.proofs.pay.pay_by.Goals as goal
+use Rattle.pc_locked.proofs.payment.pay_by.Goals as goal
 
 pub returns-in-None-clause-balanced : goal.returns-in-None-clause-balanced
 returns-in-None-clause-balanced g c =

@@ -1,5 +1,5 @@
 use Rattle.pc_plain.specs.PlainCells.{cells_of}
-use Rattle.pc_locked.proofs.pay.repair_by.Goals as goal
+use Rattle.pc_locked.proofs.payment.repair_by.Goals as goal
 
 pub returns-clause-answered : goal.returns-clause-answered
 returns-clause-answered g c k debt =
