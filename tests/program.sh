@@ -46,6 +46,8 @@ check 'the shape of a tree' 0 \
 check 'an option with a value that it has not' 2 'fault usage\n' 'put 5 50\n' --shape=x
 check 'an option twice' 2 'fault usage\n' 'put 5 50\n' --shape --shape
 check 'an option that is not there' 2 'fault usage\n' 'put 5 50\n' --help
+check 'a tree with a name' 0 'left 0\nshape 0\nend\n' '' --shape --tree bst
+check 'a tree of no kind' 2 'fault usage\n' 'put 5 50\n' --tree red
 check 'a loose word' 2 'fault usage\n' 'put 5 50\n' shape
 check 'a word that is not UTF-8' 2 'fault usage\n' '' $'\xff'
 check 'a number too large' 3 'fault line 1 bad number\n' 'put 1000000000000000000 1\n'

@@ -1,11 +1,13 @@
 -- What clap's clauses say of the words: taken, they ask for what its matches have; refused, for nothing.
-use Rattle.std.proofs.Common.{◌≡◌, ◌⊎◌, List, [], ◌∷◌, Option, Some, refl, true, false, inl, inr, arith, ne_eqb}
-use Rattle.std.specs.Prelude.{IsNone}
+use Rattle.std.proofs.Common.{◌≡◌, ◌⊎◌, List, [], ◌∷◌, Option, Some, None, is_some, refl, ap, true, false}
+use Rattle.std.proofs.Common.{inl, inr, arith, ne_eqb}
+use Rattle.std.specs.Prelude.{IsNone, IfOk, IfErr, ok_or}
 use Rattle.clap.specs.Words.{Kinds, IsAmong, Row, Text, fault_of, matches_of, is_simple_and_free, is_simple}
 use Rattle.clap.specs.Walk.{is_empty}
 use Rattle.clap.specs.declared.error.kind.ErrorKind.{ErrorKind}
 use Rattle.clap.specs.declared.error.kind.ErrorKind.TheVariants.{OutOfMemory}
 use Rattle.clap.proofs.OnLiterals.{clap_on_literals}
+use Rattle.pc_text.specs.declared.fault.Fault.TheVariants.{Usage}
 use Rattle.pathmap.specs.Words.{pathmap, asked_by, options_in, fault_of_kind, IsWordsFault}
 use Rattle.pathmap.specs.declared.words.Options.{Options}
 
@@ -19,7 +21,7 @@ pathmap_has_matches = refl
 
 -- words without a fault ask for what the command's matches have
 pub asked_where_taken : (words : List Text) (rows : List Row) → fault_of pathmap words ≡ []
-    → rows ≡ matches_of pathmap words → asked_by words ≡ Some (options_in rows)
+    → rows ≡ matches_of pathmap words → asked_by words ≡ options_in rows
 asked_where_taken words rows taken is = rw (taken, is) refl
 
 -- where a kind of error may come, there is a fault
@@ -38,3 +40,9 @@ pub why_refused : (k : ErrorKind) (words : List Text) → (k ≡ OutOfMemory) �
 why_refused k words (inl memory) = rw memory tt
 why_refused k words (inr among) =
     refused_for k (asked_by words) (rw (some_kind k (fault_of pathmap words) among) refl)
+
+-- options that may be missing, as a result that is faulty then
+pub options_or_usage : (asked found : Option Options) → asked ≡ found
+    → IfOk (ok_or found Usage) (λ options. asked ≡ Some options) × IfErr (ok_or found Usage) (IsWordsFault asked)
+options_or_usage asked None is = (tt, ap is_some is)
+options_or_usage asked (Some options) is = (is, tt)

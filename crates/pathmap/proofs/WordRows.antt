@@ -1,6 +1,7 @@
 -- Worked rows of what words ask for: each one computes.
 use Rattle.std.proofs.Common.{◌≡◌, List, [], ◌∷◌, Some, None, refl, true, false, codes}
 use Rattle.clap.specs.Words.{Text}
+use Rattle.pc_avl.specs.declared.tree_kind.TreeKind.TheVariants.{Bst, Avl}
 use Rattle.clap.proofs.OnLiterals.{clap_on_literals}
 use Rattle.pathmap.specs.Words.{pathmap, asked_by}
 
@@ -8,24 +9,24 @@ use Rattle.pathmap.specs.Words.{pathmap, asked_by}
 abbrev behind : List Text → List Text
 behind words = codes "pathmap" ∷ words
 
-plain : asked_by (behind []) ≡ Some (record { shape = false })
+plain : asked_by (behind []) ≡ Some (record { tree = Bst; shape = false })
 unfolding pathmap clap_on_literals
 plain = refl
 
-shaped : asked_by (behind (codes "--shape" ∷ [])) ≡ Some (record { shape = true })
+shaped : asked_by (behind (codes "--shape" ∷ [])) ≡ Some (record { tree = Bst; shape = true })
 unfolding pathmap clap_on_literals
 shaped = refl
 
 -- a name is no option, and no name is none
-name_alone : asked_by (codes "--shape" ∷ []) ≡ Some (record { shape = false })
+name_alone : asked_by (codes "--shape" ∷ []) ≡ Some (record { tree = Bst; shape = false })
 unfolding pathmap clap_on_literals
 name_alone = refl
 
-no_words : asked_by [] ≡ Some (record { shape = false })
+no_words : asked_by [] ≡ Some (record { tree = Bst; shape = false })
 unfolding pathmap clap_on_literals
 no_words = refl
 
-ended : asked_by (behind (codes "--shape" ∷ codes "--" ∷ [])) ≡ Some (record { shape = true })
+ended : asked_by (behind (codes "--shape" ∷ codes "--" ∷ [])) ≡ Some (record { tree = Bst; shape = true })
 unfolding pathmap clap_on_literals
 ended = refl
 
@@ -57,6 +58,59 @@ help : asked_by (behind (codes "--help" ∷ [])) ≡ None
 unfolding pathmap clap_on_literals
 help = refl
 
-no_such_option : asked_by (behind (codes "--tree" ∷ codes "red" ∷ [])) ≡ None
+-- ---- the kind of tree
+
+tree : asked_by (behind (codes "--tree" ∷ codes "avl" ∷ [])) ≡ Some (record { tree = Avl; shape = false })
 unfolding pathmap clap_on_literals
-no_such_option = refl
+tree = refl
+
+attached : asked_by (behind (codes "--tree=avl" ∷ [])) ≡ Some (record { tree = Avl; shape = false })
+unfolding pathmap clap_on_literals
+attached = refl
+
+plain_tree : asked_by (behind (codes "--tree" ∷ codes "bst" ∷ [])) ≡ Some (record { tree = Bst; shape = false })
+unfolding pathmap clap_on_literals
+plain_tree = refl
+
+tree_first : asked_by (behind (codes "--tree" ∷ codes "avl" ∷ codes "--shape" ∷ []))
+    ≡ Some (record { tree = Avl; shape = true })
+unfolding pathmap clap_on_literals
+tree_first = refl
+
+tree_last : asked_by (behind (codes "--shape" ∷ codes "--tree=avl" ∷ codes "--" ∷ []))
+    ≡ Some (record { tree = Avl; shape = true })
+unfolding pathmap clap_on_literals
+tree_last = refl
+
+no_such_tree : asked_by (behind (codes "--tree" ∷ codes "red" ∷ [])) ≡ None
+unfolding pathmap clap_on_literals
+no_such_tree = refl
+
+great_letters : asked_by (behind (codes "--tree=BST" ∷ [])) ≡ None
+unfolding pathmap clap_on_literals
+great_letters = refl
+
+no_value : asked_by (behind (codes "--tree" ∷ [])) ≡ None
+unfolding pathmap clap_on_literals
+no_value = refl
+
+empty_value : asked_by (behind (codes "--tree=" ∷ [])) ≡ None
+unfolding pathmap clap_on_literals
+empty_value = refl
+
+-- a word that looks like an option is no value
+option_as_value : asked_by (behind (codes "--tree" ∷ codes "--shape" ∷ [])) ≡ None
+unfolding pathmap clap_on_literals
+option_as_value = refl
+
+ended_without_value : asked_by (behind (codes "--tree" ∷ codes "--" ∷ codes "bst" ∷ [])) ≡ None
+unfolding pathmap clap_on_literals
+ended_without_value = refl
+
+two_values : asked_by (behind (codes "--tree" ∷ codes "bst" ∷ codes "bst" ∷ [])) ≡ None
+unfolding pathmap clap_on_literals
+two_values = refl
+
+two_trees : asked_by (behind (codes "--tree=bst" ∷ codes "--tree=bst" ∷ [])) ≡ None
+unfolding pathmap clap_on_literals
+two_trees = refl

@@ -10,7 +10,8 @@ use Rattle.pc_model.specs.Replay.{fold_of, IsRight}
 use Rattle.pc_model.specs.History.{IsHistoryOf, IsNumberedFrom, AllOfPass, calls_of}
 use Rattle.pc_plain.specs.PlainCells.{PlainWords, cells_of}
 use Rattle.pc_model.specs.Forms.{Form}
-use Rattle.pc_model.specs.Trees.{Kind, plain, IsSearchTree}
+use Rattle.pc_model.specs.Trees.{Kind, balanced, plain, IsSearchTree}
+use Rattle.pc_model.specs.Heights.{IsBalanced}
 use Rattle.pc_model.specs.Cells.{Cells}
 use Rattle.pc_text.specs.declared.shape.ShapeLine.{ShapeLine}
 use Rattle.pc_text.specs.Shapes.{shape_of}
@@ -23,17 +24,18 @@ pub record IsOneHistory (script : List (List Call)) (history : List Entry) (pair
   pub left : pairs ≡ fold_of history
   pub rising : IsRising pairs
 
--- the shape of some sound cells of this kind of tree with these pairs
+-- the shape of some sound cells of this kind of tree with these pairs; a tree of the balanced kind is in balance
 pub record IsShapeOfPairs (kind : Kind) (pairs : Pairs) (lines : List ShapeLine) : Type 0 where
   pub slots : ℕ
   pub cells : Cells
   pub search : IsSearchTree kind slots cells pairs
+  pub in_balance : kind ≡ balanced → IsBalanced cells search.tree
   pub shape : lines ≡ shape_of cells 1 search.tree
 
--- where a shape is asked for it is that of such a plain tree; else there is none
-abbrev pub IsShapeIfAsked : Bool → Pairs → Option (List ShapeLine) → Type 0
-IsShapeIfAsked true pairs shape = IsSomeAnd shape (IsShapeOfPairs plain pairs)
-IsShapeIfAsked false pairs shape = IsNone shape
+-- where a shape is asked for it is that of such a tree; else there is none
+abbrev pub IsShapeIfAsked : Kind → Bool → Pairs → Option (List ShapeLine) → Type 0
+IsShapeIfAsked kind true pairs shape = IsSomeAnd shape (IsShapeOfPairs kind pairs)
+IsShapeIfAsked kind false pairs shape = IsNone shape
 
 module _ {Z : Type 0} where
   -- the lines of a shape, if there is one

@@ -31,12 +31,13 @@ pub struct Run {
     pub shape: Option<Vec<ShapeLine>>,
 }
 
-/// Runs the calls of client 1 on a map of its own.
+/// Runs the calls of client 1 on a map of its own. The kind of tree that is asked for isn't looked at yet:
+/// each run is on the plain tree.
 pub fn run_alone(alloc: Global, options: Options, calls: &[Call]) -> Result<Run, Memory>
     requires few { length calls.now ≤ MOST_COMMANDS }
     requires in_range { All IsCallInRange calls.now }
     ensures one { IfOk result (λ run. IsOneHistory (calls.now ∷ []) run.history.items run.pairs.items) }
-    ensures shape { IfOk result (λ run. IsShapeIfAsked options.shape run.pairs.items (lines_of run.shape)) }
+    ensures shape { IfOk result (λ run. IsShapeIfAsked plain options.shape run.pairs.items (lines_of run.shape)) }
 {
     let mut cells = PlainCells::new(alloc, count_puts(calls) + 1)?;
     let history = run_calls(alloc, &mut cells, calls)?;
@@ -57,7 +58,7 @@ fn shape_if_asked(
 ) -> Result<Option<Vec<ShapeLine>>, Memory>
     requires { SpellsTree cells.now }
     ensures { IfOk result (λ shape. (pairs : Pairs) → IsSearchTree plain cells.now.slots (cells_of cells.now) pairs
-        → IsShapeIfAsked options.shape pairs (lines_of shape)) }
+        → IsShapeIfAsked plain options.shape pairs (lines_of shape)) }
 {
     if options.shape {
         let lines = shape(alloc, cells)?;

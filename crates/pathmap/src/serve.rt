@@ -8,6 +8,7 @@ ghost use Rattle.pathmap.specs.Serving.{PrintsOneHistory, PrintsFront, HasRunAll
 ghost use Rattle.pathmap.specs.Serving.{EndsInFault, IsCauseOf, IsBytesFault, WritesFault};
 ghost use Rattle.pathmap.specs.Serving.{IsTooLong, IsRefused, EndsUnlessMemory, EndsUnlessStopped};
 ghost use Rattle.pc_edge.specs.Faults.{HasRisen};
+ghost use Rattle.pc_model.specs.Trees.{plain};
 ghost use Rattle.pc_text.specs.Fault.{status_of};
 ghost use Rattle.pc_text.specs.Printed.{listed};
 ghost use Rattle.pc_text.specs.ScriptFacts.{AreFew, AreInRange};
@@ -139,7 +140,7 @@ fn run_script(alloc: Global, options: Options, script: &Script) -> Result<Run, M
     requires few { AreFew script.now.calls }
     requires in_range { AreInRange script.now.calls }
     ensures one { IfOk result (λ run. IsOneHistory script.now.calls run.history.items run.pairs.items) }
-    ensures shape { IfOk result (λ run. IsShapeIfAsked options.shape run.pairs.items (lines_of run.shape)) }
+    ensures shape { IfOk result (λ run. IsShapeIfAsked plain options.shape run.pairs.items (lines_of run.shape)) }
 {
     let calls: &[Call] = &script.calls[0];
     run_alone(alloc, options, calls)

@@ -36,7 +36,24 @@ const COMMANDS: &[Command] = &[
     (&["pathmap", "-s"], 2, 0, "fault usage\n"),
     (&["pathmap", "--help"], 2, 0, "fault usage\n"),
     (&["pathmap", "--version"], 2, 0, "fault usage\n"),
+    // The kind of tree is `bst` or `avl`, apart or attached, once, in any order.
+    (&["pathmap", "--tree", "bst"], 0, 2, PLAIN),
+    (&["pathmap", "--tree=bst"], 0, 2, PLAIN),
+    (&["pathmap", "--tree", "bst", "--shape"], 0, 2, SHAPED),
+    (&["pathmap", "--shape", "--tree=bst"], 0, 2, SHAPED),
     (&["pathmap", "--tree", "red"], 2, 0, "fault usage\n"),
+    (&["pathmap", "--tree=red"], 2, 0, "fault usage\n"),
+    (&["pathmap", "--tree", "BST"], 2, 0, "fault usage\n"),
+    (&["pathmap", "--tree"], 2, 0, "fault usage\n"),
+    (&["pathmap", "--tree="], 2, 0, "fault usage\n"),
+    (&["pathmap", "--tree", "--shape"], 2, 0, "fault usage\n"),
+    (&["pathmap", "--tree", "bst", "avl"], 2, 0, "fault usage\n"),
+    (
+        &["pathmap", "--tree=bst", "--tree=bst"],
+        2,
+        0,
+        "fault usage\n",
+    ),
 ];
 
 /// The input, the reads that there were, and the output with a shape.
