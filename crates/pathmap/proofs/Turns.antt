@@ -4,6 +4,7 @@ use Rattle.std.proofs.Common.{ap, ◌∙◌, subst, append_assoc, arith, length-
 use Rattle.std.proofs.Math.Seq.{take-append_seam}
 use Rattle.std.proofs.lemmas.List.{append-nil, length-take-le}
 use Rattle.std.specs.Io.KnownBytes.{Consumes, IsAtEnd}
+use Rattle.std.specs.Prelude.{IfSome}
 use Rattle.pc_text.specs.declared.limits.TheConstants.{MOST_BYTES}
 use Rattle.pathmap.specs.Reading.{IsInput, IsLongerThan, TakesAtMost, TakesPiece}
 
@@ -68,3 +69,9 @@ pub takes_with_filled : (a b c : Option (List ℕ)) (bytes : List ℕ) (len fill
 takes_with_filled a b c bytes len filled turn m n h le t =
     let long : length (take filled bytes) ≡ filled = length-take-le filled bytes (omega (arith, h.same, h.within)) in
     takes_at_most_more a b c (take filled bytes) m n h.takes (omega arith) t
+
+-- what holds of the bytes that were read holds of the input, where the source tells it
+pub of_input : (left : Option (List ℕ)) (bytes : List ℕ) (Holds : List ℕ → Type 0) → IsInput left bytes → Holds bytes
+    → IfSome left Holds
+of_input None bytes Holds is holds = tt
+of_input (Some input) bytes Holds is holds = subst Holds (sym is) holds

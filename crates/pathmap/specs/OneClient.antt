@@ -1,20 +1,20 @@
 -- A history of a script: one run of all its calls; and the shape of the tree that it leaves.
-use Rattle.std.specs.Prelude.{◌≡◌, ℕ, ◌<◌, ◌≤◌, Bool, true, false, List, length, Option, IsNone, IsSomeAnd, option_map}
+use Rattle.std.specs.Prelude.{◌≡◌, ℕ, ◌≤◌, Bool, true, false, List, length, Option, IsNone, IsSomeAnd, option_map}
 use Rattle.std.specs.Prelude.{Vec}
 use Rattle.pc_model.specs.declared.call.Call.{Call}
-use Rattle.pc_model.specs.declared.call.Reply.{Reply}
 use Rattle.pc_model.specs.declared.call.Entry.{Entry}
-use Rattle.pc_model.specs.Map.{Pairs, IsRising, reply_of, pairs_after}
+use Rattle.pc_model.specs.Map.{Pairs, IsRising}
 use Rattle.pc_model.specs.Calls.{puts_in}
 use Rattle.pc_model.specs.Replay.{fold_of, IsRight}
-use Rattle.pc_model.specs.History.{IsHistoryOf, IsNumberedFrom, AllOfPass, calls_of}
-use Rattle.pc_plain.specs.PlainCells.{PlainWords, cells_of}
-use Rattle.pc_model.specs.Forms.{Form}
-use Rattle.pc_model.specs.Trees.{Kind, balanced, plain, IsSearchTree}
+use Rattle.pc_model.specs.History.{IsHistoryOf, AllOfPass, calls_of}
+use Rattle.pc_model.specs.Trees.{Kind, balanced, IsSearchTree}
 use Rattle.pc_model.specs.Heights.{IsBalanced}
 use Rattle.pc_model.specs.Cells.{Cells}
 use Rattle.pc_text.specs.declared.shape.ShapeLine.{ShapeLine}
 use Rattle.pc_text.specs.Shapes.{shape_of}
+use Rattle.pc_avl.specs.declared.tree_kind.TreeKind.TheVariants.{Avl}
+use Rattle.pc_locked.specs.Repairs.{IsInFullBalance}
+use Rattle.pc_locked.specs.States.{MapState}
 
 -- one history of all clients: each call stands there once, in its client's order, each reply is what a
 -- sorted map gives at that place, and the pairs are the map that is left, by rising key
@@ -32,31 +32,27 @@ pub record IsShapeOfPairs (kind : Kind) (pairs : Pairs) (lines : List ShapeLine)
   pub in_balance : kind ≡ balanced → IsBalanced cells search.tree
   pub shape : lines ≡ shape_of cells 1 search.tree
 
+-- where lines are asked for these are they; else there are none
+abbrev pub IsListedIfAsked : Bool → (List ShapeLine → Type 0) → Option (List ShapeLine) → Type 0
+IsListedIfAsked true IsIt lines = IsSomeAnd lines IsIt
+IsListedIfAsked false IsIt lines = IsNone lines
+
 -- where a shape is asked for it is that of such a tree; else there is none
 abbrev pub IsShapeIfAsked : Kind → Bool → Pairs → Option (List ShapeLine) → Type 0
-IsShapeIfAsked kind true pairs shape = IsSomeAnd shape (IsShapeOfPairs kind pairs)
-IsShapeIfAsked kind false pairs shape = IsNone shape
+IsShapeIfAsked kind asked pairs shape = IsListedIfAsked asked (IsShapeOfPairs kind pairs) shape
 
 module _ {Z : Type 0} where
   -- the lines of a shape, if there is one
   abbrev pub lines_of : Option (Vec ShapeLine Z) → Option (List ShapeLine)
   lines_of = option_map (λ lines. lines.items)
 
--- cells that are sound for a plan, with fewer pairs than slots
-abbrev pub HasRoomFor : Form → PlainWords → Type 0
-HasRoomFor form w = (ps : Pairs) × form.sound w.slots (cells_of w) ps × (length ps < w.slots)
+-- a balanced tree is in full balance
+abbrev pub IsSettled : MapState → Type 0
+IsSettled s = s.kind ≡ Avl → IsInFullBalance s.cells
 
--- the reply is the map's for the tree's pairs, and the tree has the map's next pairs
-abbrev pub AnswersAs : Call → PlainWords → PlainWords → Reply → Type 0
-AnswersAs call old new r = (ps : Pairs) → IsSearchTree plain old.slots (cells_of old) ps
-    → (r ≡ reply_of call ps) × IsSearchTree plain new.slots (cells_of new) (pairs_after call ps)
-
--- the calls so far were run: their history is right, and the tree has the map that they leave
-pub record HasRun (slots : ℕ) (calls : List Call) (w : PlainWords) (history : List Entry) : Type 0 where
-  pub numbered : IsNumberedFrom 1 history
-  pub own : AllOfPass 1 history
-  pub in_order : calls_of history ≡ calls
-  pub right : IsRight history
-  pub tree : IsSearchTree plain w.slots (cells_of w) (fold_of history)
-  pub few : length (fold_of history) ≤ puts_in calls
-  pub size : w.slots ≡ slots
+-- the calls were run by client 1, each once and in order, and paid for
+pub record HasRun (calls : List Call) (s : MapState) : Type 0 where
+  pub own : AllOfPass 1 s.entries
+  pub in_order : calls_of s.entries ≡ calls
+  pub few : length (fold_of s.entries) ≤ puts_in calls
+  pub settled : IsSettled s

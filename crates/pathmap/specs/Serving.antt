@@ -4,7 +4,7 @@ use Rattle.std.specs.Prelude.{IfSome, IsSome, IsNone}
 use Rattle.std.specs.Io.KnownBytes.{Appends, IsAtEnd}
 use Rattle.pc_model.specs.declared.call.Entry.{Entry}
 use Rattle.pc_model.specs.Map.{Pairs}
-use Rattle.pc_model.specs.Trees.{plain}
+use Rattle.pc_avl.specs.TreeKinds.{kind_of}
 use Rattle.pc_edge.specs.Faults.{HasRisen}
 use Rattle.pc_edge.specs.declared.traits.Failed.{Failed}
 use Rattle.pc_edge.specs.Sending.{AppendsFront, Writes}
@@ -52,7 +52,7 @@ pub record HasRunAll (asked : Option Options) (input rest : Option (List ℕ)) (
   pub spelled : IfSome input (λ bytes. SpellsScript bytes script)
   pub at_end : IsAtEnd rest
   pub one : IsOneHistory script.calls history pairs
-  pub shaped : IsShapeIfAsked plain options.shape pairs shape
+  pub shaped : IsShapeIfAsked (kind_of options.tree) options.shape pairs shape
 
 -- what the sink holds is what it held before and one history of all clients, with the pairs that are left and the
 -- shape that was asked for
@@ -112,7 +112,7 @@ pub record RunsBytes (options : Options) (bytes : List ℕ) (history : List Entr
   pub script : ScriptValue
   pub spelled : script_of bytes ≡ Ok script
   pub one : IsOneHistory script.calls history pairs
-  pub shaped : IsShapeIfAsked plain options.shape pairs shape
+  pub shaped : IsShapeIfAsked (kind_of options.tree) options.shape pairs shape
 
 -- why bytes are not run: they have a bad line, or more than one client, or memory was wanting
 abbrev pub IsBytesFault : List ℕ → Fault → Type 0

@@ -1,53 +1,52 @@
-//! Running the calls of one client, one after another, on plain cells.
-ghost use Rattle.std.specs.Prelude.{◌≡◌, ◌+◌, ◌<◌, ◌≤◌, ◌∷◌, [], length, All, IfOk};
+//! Running the calls of one client, one after another, on a map of its own.
+ghost use Rattle.std.specs.Prelude.{◌≡◌, ◌+◌, ◌<◌, ◌≤◌, ◌∷◌, [], ◌++◌, length, All, IfOk};
 ghost use Rattle.pc_model.specs.Calls.{is_put, puts_in};
 ghost use Rattle.pc_model.specs.Counts.{one_if};
+ghost use Rattle.pc_model.specs.Map.{reply_of};
+ghost use Rattle.pc_model.specs.Replay.{fold_of};
 ghost use Rattle.pc_text.specs.ScriptFacts.{IsCallInRange};
-ghost use Rattle.pc_plain.specs.PlainCells.{IsEmptyTree, cells_of};
 ghost use Rattle.pc_plain.specs.PlainPairs.{SpellsTree};
-ghost use Rattle.pc_model.specs.Map.{Pairs};
-ghost use Rattle.pc_model.specs.Trees.{plain, IsSearchTree};
-ghost use Rattle.pc_model.specs.TreeForms.{tree_form};
-ghost use Rattle.pc_plan.specs.Quiet.{AsksForNoExchange};
-ghost use Rattle.pc_plain.specs.PlainRuns.{HoldsPairs, RunsRight};
-ghost use Rattle.pathmap.specs.OneClient.{IsOneHistory, IsShapeIfAsked, lines_of};
-ghost use Rattle.pathmap.specs.OneClient.{HasRoomFor, AnswersAs, HasRun};
+ghost use Rattle.pc_plain.specs.PlainShapes.{IsShapeOf};
+ghost use Rattle.pc_avl.specs.TreeKinds.{kind_of};
+ghost use Rattle.pc_locked.specs.States.{HasRoom, IsSameMap, next_entry};
+ghost use Rattle.pathmap.specs.OneClient.{IsOneHistory, IsShapeIfAsked, IsListedIfAsked, lines_of, HasRun, IsSettled};
 
 use crate::words::Options;
-use pc_bst::{BstGet, BstPut, BstRemove};
-use pc_model::{Call, Entry, Memory, Reply};
-use pc_order::{CeilPlan, FloorPlan, plans_change_nothing};
-use pc_plain::{PlainCells, pairs, quiet_plans_change_nothing, run_plan, shape};
-use pc_plan::Plan;
+use pc_locked::{LockedState, apply, open_state, pay};
+use pc_model::{Call, Memory};
+use pc_plain::{PlainCells, pairs, shape};
 use pc_text::{MOST_COMMANDS, ShapeLine};
 use std::alloc::Global;
+use std::sync::Wait;
 
-/// What a run leaves: its history, the pairs of the map by rising key, and the tree's shape, where it
-/// was asked for.
-#[derive(Debug, Drop)]
+/// What a run leaves: the map with its history, its pairs by rising key, and the tree's shape, where it was
+/// asked for.
+#[derive(Drop)]
 pub struct Run {
-    pub history: Vec<Entry>,
+    pub map: LockedState,
     pub pairs: Vec<(u64, u64)>,
     pub shape: Option<Vec<ShapeLine>>,
 }
 
-/// Runs the calls of client 1 on a map of its own. The kind of tree that is asked for isn't looked at yet:
-/// each run is on the plain tree.
-pub fn run_alone(alloc: Global, options: Options, calls: &[Call]) -> Result<Run, Memory>
+/// Runs the calls of client 1 on a map of its own, whose tree is of the kind that is asked for.
+pub fn run_alone<R: Wait>(
+    rt: &R,
+    alloc: Global,
+    options: Options,
+    calls: &[Call],
+) -> Result<Run, Memory>
     requires few { length calls.now ≤ MOST_COMMANDS }
     requires in_range { All IsCallInRange calls.now }
-    ensures one { IfOk result (λ run. IsOneHistory (calls.now ∷ []) run.history.items run.pairs.items) }
-    ensures shape { IfOk result (λ run. IsShapeIfAsked plain options.shape run.pairs.items (lines_of run.shape)) }
+    ensures one { IfOk result (λ run. IsOneHistory (calls.now ∷ []) run.map.entries run.pairs.items) }
+    ensures shape { IfOk result
+        (λ run. IsShapeIfAsked (kind_of options.tree) options.shape run.pairs.items (lines_of run.shape)) }
 {
-    let mut cells = PlainCells::new(alloc, count_puts(calls) + 1)?;
-    let history = run_calls(alloc, &mut cells, calls)?;
-    let pairs = pairs(alloc, &cells)?;
-    let shape = shape_if_asked(alloc, options, &cells)?;
-    Ok(Run {
-        history,
-        pairs,
-        shape,
-    })
+    let slots = count_puts(calls) + 1;
+    let mut map = open_state(alloc, options.tree, slots, calls.len() as u32)?;
+    run_calls(rt, &mut map, calls);
+    let pairs = pairs(alloc, map.cells())?;
+    let shape = shape_if_asked(alloc, options, map.cells())?;
+    Ok(Run { map, pairs, shape })
 }
 
 // The shape of the tree, where it is asked for.
@@ -57,8 +56,7 @@ fn shape_if_asked(
     cells: &PlainCells,
 ) -> Result<Option<Vec<ShapeLine>>, Memory>
     requires { SpellsTree cells.now }
-    ensures { IfOk result (λ shape. (pairs : Pairs) → IsSearchTree plain cells.now.slots (cells_of cells.now) pairs
-        → IsShapeIfAsked plain options.shape pairs (lines_of shape)) }
+    ensures { IfOk result (λ lines. IsListedIfAsked options.shape (IsShapeOf cells.now) (lines_of lines)) }
 {
     if options.shape {
         let lines = shape(alloc, cells)?;
@@ -90,79 +88,46 @@ fn one_for_put(call: &Call) -> u32
     }
 }
 
-// Runs the calls on an empty tree that has a slot for each put and one more.
-fn run_calls(alloc: Global, cells: &mut PlainCells, calls: &[Call]) -> Result<Vec<Entry>, Memory>
-    requires empty { IsEmptyTree plain cells.old }
-    requires size { cells.old.slots ≡ puts_in calls.now + 1 }
-    requires few { length calls.now ≤ MOST_COMMANDS }
+// Runs the calls on a map with no entries yet, which has a slot for each put and one more, and room for all.
+fn run_calls<R: Wait>(rt: &R, map: &mut LockedState, calls: &[Call])
+    requires empty { map.old.entries ≡ [] }
+    requires slots { map.old.cells.slots ≡ puts_in calls.now + 1 }
+    requires room { map.old.calls ≡ length calls.now }
+    requires settled { IsSettled map.old }
     requires in_range { All IsCallInRange calls.now }
-    ensures { IfOk result (λ history. HasRun cells.old.slots calls.now cells.new history.items) }
+    ensures run { HasRun calls.now map.new }
+    ensures same { IsSameMap map.old map.new }
 {
-    let Ok(mut history) = Vec::with_capacity(alloc, calls.len()) else {
-        return Err(Memory);
-    };
-    for (i, call) in calls.iter().enumerate() {
-        let reply = answer(cells, *call);
-        history.push_reserved(entry_of(i, *call, reply));
-    }
-    Ok(history)
-}
-
-// The entry of the call at a place, from 0, of client 1.
-fn entry_of(place: usize, call: Call, reply: Reply) -> Entry
-    requires { place < MOST_COMMANDS }
-    ensures { result ≡ record { pass = 1; number = place + 1; call = call; reply = reply; stamp = place + 1 } }
-{
-    Entry {
-        pass: 1,
-        number: place as u32 + 1,
-        call,
-        reply,
-        stamp: place as u64 + 1,
+    for call in calls {
+        run_call(rt, map, *call);
     }
 }
 
-// Runs a call on a tree that has a slot left.
-fn answer(cells: &mut PlainCells, call: Call) -> Reply
-    requires room { HasRoomFor (tree_form plain) cells.old }
+// Runs a call on a map that has a slot left, and then pays what is owed.
+fn run_call<R: Wait>(rt: &R, map: &mut LockedState, call: Call)
+    requires room { HasRoom map.old }
+    requires slots { length (fold_of map.old.entries) < map.old.cells.slots }
     requires in_range { IsCallInRange call }
-    ensures right { AnswersAs call cells.old cells.new result }
-    ensures size { cells.new.slots ≡ cells.old.slots }
+    ensures entries { map.new.entries ≡ map.old.entries
+        ++ next_entry map.old.entries 1 call (reply_of call (fold_of map.old.entries)) ∷ [] }
+    ensures same { IsSameMap map.old map.new }
+    ensures settled { IsSettled map.new }
 {
-    plans_change_nothing();
-    match call {
-        Call::Put { key, value } => reply_by::<BstPut>(cells, (key, value)),
-        Call::Get { key } => reply_by::<BstGet>(cells, key),
-        Call::Remove { key } => reply_by::<BstRemove>(cells, key),
-        Call::Ceil { key } => look_by::<CeilPlan>(cells, key),
-        Call::Floor { key } => look_by::<FloorPlan>(cells, key),
-    }
-}
-
-// Runs the plan of a call on cells that have a slot left.
-fn reply_by<P: Plan>(cells: &mut PlainCells, call: P::Call) -> Reply
-    requires call { P.can_call call }
-    requires room { HasRoomFor P.form cells.old }
-    ensures right { RunsRight P.form (P.terms call) cells.old cells.new result }
-    ensures size { cells.new.slots ≡ cells.old.slots }
-{
-    match run_plan::<P>(cells, call) {
-        Ok(reply) => reply,
+    match apply(map, 1, call) {
+        Ok(_) => settle(rt, map),
         Err(_) => unreachable!(),
     }
 }
 
-// Runs the plan of a call that asks for no exchange: the cells stay as they are.
-fn look_by<P: Plan>(cells: &mut PlainCells, call: P::Call) -> Reply
-    requires call { P.can_call call }
-    requires sound { HoldsPairs P.form cells.old }
-    requires quiet { AsksForNoExchange P.start P.moves P.can_call }
-    ensures right { RunsRight P.form (P.terms call) cells.old cells.new result }
-    ensures stays { cells.new ≡ cells.old }
+// Repairs until nothing is owed. Whether that ends isn't promised.
+fn settle<R: Wait>(rt: &R, map: &mut LockedState)
+    ensures entries { map.new.entries ≡ map.old.entries }
+    ensures same { IsSameMap map.old map.new }
+    ensures settled { IsSettled map.new }
 {
-    quiet_plans_change_nothing::<P>();
-    match run_plan::<P>(cells, call) {
-        Ok(reply) => reply,
-        Err(_) => unreachable!(),
+    for _ in rt.forever() {
+        if !pay(map) {
+            return;
+        }
     }
 }

@@ -8,7 +8,7 @@ ghost use Rattle.pathmap.specs.Serving.{PrintsOneHistory, PrintsFront, HasRunAll
 ghost use Rattle.pathmap.specs.Serving.{EndsInFault, IsCauseOf, IsBytesFault, WritesFault};
 ghost use Rattle.pathmap.specs.Serving.{IsTooLong, IsRefused, EndsUnlessMemory, EndsUnlessStopped};
 ghost use Rattle.pc_edge.specs.Faults.{HasRisen};
-ghost use Rattle.pc_model.specs.Trees.{plain};
+ghost use Rattle.pc_avl.specs.TreeKinds.{kind_of};
 ghost use Rattle.pc_text.specs.Fault.{status_of};
 ghost use Rattle.pc_text.specs.Printed.{listed};
 ghost use Rattle.pc_text.specs.ScriptFacts.{AreFew, AreInRange};
@@ -44,7 +44,7 @@ pub struct Outcome {
 /// printed. 6: the input has more than 4,194,304 bytes. 9: memory was wanting, before the first byte. At
 /// each status but 0 and 5 the line of the fault is written.
 pub fn serve<R: Threads + Wait + Sync, S: Source, K: Sink, G: Gate + Sync>(
-    _rt: &R,
+    rt: &R,
     alloc: Global,
     words: &[String],
     source: &mut S,
@@ -81,11 +81,11 @@ pub fn serve<R: Threads + Wait + Sync, S: Source, K: Sink, G: Gate + Sync>(
     ensures source_never_falls { S.faults source.old ≤ S.faults source.new }
     ensures sink_never_falls { K.faults sink.old ≤ K.faults sink.new }
 {
-    let run = match run_input(alloc, words, source) {
+    let run = match run_input(rt, alloc, words, source) {
         Ok(run) => run,
         Err(fault) => return refuse(sink, &fault),
     };
-    match print_run(sink, &run.history, &run.pairs, extras_of(&run)) {
+    match print_run(sink, run.map.history(), &run.pairs, extras_of(&run)) {
         Ok(()) => Outcome { status: PRINTED },
         Err(Failed) => Outcome { status: STOPPED },
     }
@@ -103,9 +103,14 @@ fn extras_of(run: &Run) -> Extras<'_>
 }
 
 // Reads the words and the script, and runs it. Nothing is printed.
-fn run_input<S: Source>(alloc: Global, words: &[String], source: &mut S) -> Result<Run, Fault>
+fn run_input<R: Wait, S: Source>(
+    rt: &R,
+    alloc: Global,
+    words: &[String],
+    source: &mut S,
+) -> Result<Run, Fault>
     ensures ok { IfOk result (λ run. HasRunAll (options_of words.now)
-        (S.left source.old) (S.left source.new) run.history.items run.pairs.items (lines_of run.shape)) }
+        (S.left source.old) (S.left source.new) run.map.entries run.pairs.items (lines_of run.shape)) }
     ensures not_refused { IfOk result (λ _. IfSome (S.left source.old) (λ bytes. IsRefused bytes → ⊥)) }
     ensures cause { IfErr result
         (IsCauseOf (options_of words.now) (S.left source.old) (S.faults source.old) (S.faults source.new)) }
@@ -115,14 +120,20 @@ fn run_input<S: Source>(alloc: Global, words: &[String], source: &mut S) -> Resu
 {
     let options = options_of(alloc, words)?;
     let bytes = read_all(alloc, source)?;
-    run_bytes(alloc, options, &bytes)
+    let run = run_bytes(rt, alloc, options, &bytes)?;
+    Ok(run)
 }
 
 // Runs the script that bytes spell.
-fn run_bytes(alloc: Global, options: Options, bytes: &[u8]) -> Result<Run, Fault>
+fn run_bytes<R: Wait>(
+    rt: &R,
+    alloc: Global,
+    options: Options,
+    bytes: &[u8],
+) -> Result<Run, Fault>
     requires { length bytes.now ≤ MOST_BYTES }
     ensures ok { IfOk result
-        (λ run. RunsBytes options bytes.now run.history.items run.pairs.items (lines_of run.shape)) }
+        (λ run. RunsBytes options bytes.now run.map.entries run.pairs.items (lines_of run.shape)) }
     ensures not_refused { IfOk result (λ _. IsRefused bytes.now → ⊥) }
     ensures cause { IfErr result (IsBytesFault bytes.now) }
 {
@@ -130,20 +141,25 @@ fn run_bytes(alloc: Global, options: Options, bytes: &[u8]) -> Result<Run, Fault
     if script.clients > 1 {
         return Err(Fault::NotBuilt);
     }
-    let run = run_script(alloc, options, &script)?;
+    let run = run_script(rt, alloc, options, &script)?;
     Ok(run)
 }
 
 // Runs a script of one client.
-fn run_script(alloc: Global, options: Options, script: &Script) -> Result<Run, Memory>
+fn run_script<R: Wait>(
+    rt: &R,
+    alloc: Global,
+    options: Options,
+    script: &Script,
+) -> Result<Run, Memory>
     requires one_list { length script.now.calls ≡ 1 }
     requires few { AreFew script.now.calls }
     requires in_range { AreInRange script.now.calls }
-    ensures one { IfOk result (λ run. IsOneHistory script.now.calls run.history.items run.pairs.items) }
-    ensures shape { IfOk result (λ run. IsShapeIfAsked plain options.shape run.pairs.items (lines_of run.shape)) }
+    ensures one { IfOk result (λ run. IsOneHistory script.now.calls run.map.entries run.pairs.items) }
+    ensures shape { IfOk result (λ run. IsShapeIfAsked (kind_of options.tree) options.shape run.pairs.items (lines_of run.shape)) }
 {
     let calls: &[Call] = &script.calls[0];
-    run_alone(alloc, options, calls)
+    run_alone(rt, alloc, options, calls)
 }
 
 /// Writes a fault's line, and ends with its status whether or not it was written.

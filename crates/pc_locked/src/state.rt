@@ -6,6 +6,8 @@ ghost use Rattle.pc_model.specs.Map.{reply_of};
 ghost use Rattle.pc_model.specs.Replay.{fold_of};
 ghost use Rattle.pc_text.specs.ScriptFacts.{IsCallInRange};
 ghost use Rattle.pc_locked.specs.Answers.{AreCharged, WantsSlotInVain};
+ghost use Rattle.pc_avl.specs.declared.tree_kind.TreeKind.TheVariants.{Avl};
+ghost use Rattle.pc_locked.specs.Repairs.{IsInFullBalance};
 ghost use Rattle.pc_locked.specs.States.{AreCounts, HasRoom, IsOpened, IsRightState, IsSameMap, next_entry};
 
 use crate::answer::answer;
@@ -86,7 +88,8 @@ pub fn open_state(
     calls: u32,
 ) -> Result<LockedState, Memory>
     requires { slots ≤ 61000 }
-    ensures { IfOk result (IsOpened kind slots calls) }
+    ensures opened { IfOk result (IsOpened kind slots calls) }
+    ensures balanced { IfOk result (λ s. kind ≡ Avl → IsInFullBalance s.cells) }
 {
     let cells = PlainCells::new(alloc, slots)?;
     let Ok(entries) = Vec::with_capacity(alloc, calls as usize) else {

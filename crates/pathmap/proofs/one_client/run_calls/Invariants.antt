@@ -1,8 +1,8 @@
-use Rattle.std.proofs.Common.{◌≡◌, ◌≤◌, take, length, vec_len}
-use Rattle.std.specs.Prelude.{vec_capacity}
+-- The calls before this one were run.
+use Rattle.std.proofs.Common.{◌≡◌, take}
+use Rattle.pc_locked.specs.States.{IsSameMap}
 use Rattle.pathmap.specs.OneClient.{HasRun}
 use Rattle.pathmap.proofs.one_client.run_calls.Given as goal
 
-abbrev pub invariant-loop-i : goal.invariant-loop-i
-invariant-loop-i l = HasRun l.initial.cells.slots (take l.i l.calls) l.cells l.history.items
-    × (vec_len l.history ≡ l.i) × (length l.calls ≤ vec_capacity l.history)
+abbrev pub invariant-loop-call : goal.invariant-loop-call
+invariant-loop-call g l = HasRun (take l.call-index l.calls) l.map × IsSameMap l.initial.map l.map

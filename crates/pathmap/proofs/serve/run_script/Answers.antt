@@ -7,7 +7,7 @@ use Rattle.pathmap.proofs.Refusals.{only_list_in_range}
 use Rattle.pathmap.proofs.serve.run_script.Goals as goal
 
 pub run_alone-requires-clause-in_range : goal.run_alone-requires-clause-in_range
-run_alone-requires-clause-in_range c =
+run_alone-requires-clause-in_range g c =
     let lists = c.script.inside.calls.items in
     let whole = ap (λ s. s.calls) c.script.view_is in
     let one : length (map (λ list. list.items) lists) ≡ 1 = ap length whole ∙ c.requires.one_list in

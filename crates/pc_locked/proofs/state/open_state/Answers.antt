@@ -1,4 +1,6 @@
-use Rattle.std.proofs.Common.{refl, subst, sym, ◌≤◌, ℕ}
+use Rattle.std.proofs.Common.{ℕ, ◌≤◌, refl, sym, ap, subst}
+use Rattle.pc_model.specs.Debts.{Debts, first_owed}
+use Rattle.pc_locked.proofs.Paying.{balanced_when_free}
 use Rattle.pc_locked.proofs.StateSteps.{empty_of, opened_right, opened_counts}
 use Rattle.pc_locked.proofs.state.open_state.Goals as goal
 
@@ -12,3 +14,13 @@ invariant_of-result c = (
   opened_counts _ c.in-Ok.entries.items refl refl c.in-Ok.ensures.items,
   c.in-Ok.ensures.capacity,
 )
+
+-- nothing is owed, so the empty tree is in full balance
+pub returns-clause-balanced : goal.returns-clause-balanced
+returns-clause-balanced c = balanced_when_free (record {
+  kind = c.args.kind;
+  cells = c.in_ok-cells.cells;
+  entries = c.in-Ok.entries.items;
+  calls = c.args.calls;
+  owed = c.none.result;
+}) (invariant_of-result c).0 (ap (λ (d : Debts). first_owed d.keys d.from) c.none.ensures)
