@@ -192,6 +192,7 @@ const INPUTS: &[(&str, u8, &str)] = &[
 fn input_ends_so<R: Threads + Wait + Sync>(
     rt: &R,
     alloc: Global,
+    words: &[&str],
     input: &str,
     status: u8,
     output: &str,
@@ -205,15 +206,19 @@ fn input_ends_so<R: Threads + Wait + Sync>(
     match Vec::from_slice(alloc, input.as_bytes()) {
         Ok(bytes) => {
             let source = source_of(bytes, 1000, Vec::new(alloc));
-            ends_so(rt, alloc, &["pathmap"], source, (1000, 1000), ending)
+            ends_so(rt, alloc, words, source, (1000, 1000), ending)
         }
         Err(_) => false,
     }
 }
 
-fn first_other_input<R: Threads + Wait + Sync>(rt: &R, alloc: Global) -> Option<usize> {
+fn first_other_input<R: Threads + Wait + Sync>(
+    rt: &R,
+    alloc: Global,
+    words: &[&str],
+) -> Option<usize> {
     for (i, (input, status, output)) in INPUTS.iter().enumerate() {
-        if !input_ends_so(rt, alloc, input, *status, output) {
+        if !input_ends_so(rt, alloc, words, input, *status, output) {
             return Some(i);
         }
     }
@@ -358,7 +363,9 @@ fn first_other_large_input<R: Threads + Wait + Sync>(rt: &R, alloc: Global) -> O
 
 #[test]
 fn each_input_has_its_status_and_output(rt: HostRuntime) {
-    all_hold(&rt, first_other_input(&rt, rt.alloc()));
+    all_hold(&rt, first_other_input(&rt, rt.alloc(), &["pathmap"]));
+    let balanced = ["pathmap", "--tree", "avl"];
+    all_hold(&rt, first_other_input(&rt, rt.alloc(), &balanced));
 }
 
 #[test]

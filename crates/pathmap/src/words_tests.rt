@@ -41,6 +41,8 @@ const COMMANDS: &[Command] = &[
     (&["pathmap", "--tree=bst"], 0, 2, PLAIN),
     (&["pathmap", "--tree", "bst", "--shape"], 0, 2, SHAPED),
     (&["pathmap", "--shape", "--tree=bst"], 0, 2, SHAPED),
+    (&["pathmap", "--tree", "avl"], 0, 2, PLAIN),
+    (&["pathmap", "--tree=avl", "--shape"], 0, 2, SHAPED),
     (&["pathmap", "--tree", "red"], 2, 0, "fault usage\n"),
     (&["pathmap", "--tree=red"], 2, 0, "fault usage\n"),
     (&["pathmap", "--tree", "BST"], 2, 0, "fault usage\n"),
@@ -56,11 +58,19 @@ const COMMANDS: &[Command] = &[
     ),
 ];
 
-/// The input, the reads that there were, and the output with a shape.
-const SHAPES: &[(&str, u64, &str)] = &[
-    ("", 1, "left 0\nshape 0\nend\n"),
+/// The words, the input, the reads that there were, and the output with a shape.
+type Shaped = (&'static [&'static str], &'static str, u64, &'static str);
+
+const PLAIN_TREE: &[&str] = &["pathmap", "--shape"];
+
+const BALANCED_TREE: &[&str] = &["pathmap", "--shape", "--tree", "avl"];
+
+const SHAPES: &[Shaped] = &[
+    (PLAIN_TREE, "", 1, "left 0\nshape 0\nend\n"),
+    (BALANCED_TREE, "", 1, "left 0\nshape 0\nend\n"),
     // The successor is the right child itself.
     (
+        PLAIN_TREE,
         "put 2 20\nput 1 10\nput 3 30\nremove 2\n",
         2,
         "1 1.1 put 2 20 = new\n2 1.2 put 1 10 = new\n3 1.3 put 3 30 = new\n4 1.4 remove 2 = 20\n\
@@ -68,12 +78,31 @@ const SHAPES: &[(&str, u64, &str)] = &[
     ),
     // The successor lies deeper and has a right child.
     (
+        PLAIN_TREE,
         "put 10 10\nput 5 5\nput 20 20\nput 15 15\nput 25 25\nput 17 17\nremove 10\n",
         2,
         "1 1.1 put 10 10 = new\n2 1.2 put 5 5 = new\n3 1.3 put 20 20 = new\n\
          4 1.4 put 15 15 = new\n5 1.5 put 25 25 = new\n6 1.6 put 17 17 = new\n\
          7 1.7 remove 10 = 10\nleft 5\n5 5\n15 15\n17 17\n20 20\n25 25\n\
          shape 3\n1 15 3 -1\n2 5 1 0\n2 20 2 0\n3 17 1 0\n3 25 1 0\nend\n",
+    ),
+    // Single rotations alone.
+    (
+        BALANCED_TREE,
+        "put 1 1\nput 2 2\nput 3 3\nput 4 4\nput 5 5\nput 6 6\nput 7 7\n",
+        2,
+        "1 1.1 put 1 1 = new\n2 1.2 put 2 2 = new\n3 1.3 put 3 3 = new\n4 1.4 put 4 4 = new\n\
+         5 1.5 put 5 5 = new\n6 1.6 put 6 6 = new\n7 1.7 put 7 7 = new\n\
+         left 7\n1 1\n2 2\n3 3\n4 4\n5 5\n6 6\n7 7\n\
+         shape 3\n1 4 3 0\n2 2 2 0\n3 1 1 0\n3 3 1 0\n2 6 2 0\n3 5 1 0\n3 7 1 0\nend\n",
+    ),
+    // A double one.
+    (
+        BALANCED_TREE,
+        "put 3 3\nput 1 1\nput 2 2\n",
+        2,
+        "1 1.1 put 3 3 = new\n2 1.2 put 1 1 = new\n3 1.3 put 2 2 = new\nleft 3\n1 1\n2 2\n3 3\n\
+         shape 2\n1 2 2 0\n2 1 1 0\n2 3 1 0\nend\n",
     ),
 ];
 
@@ -113,9 +142,9 @@ fn first_other_command<R: Threads + Wait + Sync>(rt: &R, alloc: Global) -> Optio
 }
 
 fn first_other_shape<R: Threads + Wait + Sync>(rt: &R, alloc: Global) -> Option<usize> {
-    for (i, (input, reads, output)) in SHAPES.iter().enumerate() {
+    for (i, (words, input, reads, output)) in SHAPES.iter().enumerate() {
         let ending = ending_of(0, *reads, output);
-        if !command_ends_so(rt, alloc, &["pathmap", "--shape"], input, ending) {
+        if !command_ends_so(rt, alloc, words, input, ending) {
             return Some(i);
         }
     }
