@@ -18,6 +18,8 @@ mod owed_runs;
 #[cfg(test)]
 mod plain_runs;
 #[cfg(test)]
+mod repair_runs;
+#[cfg(test)]
 mod reservations;
 #[cfg(test)]
 mod tables;
