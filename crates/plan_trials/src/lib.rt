@@ -20,6 +20,8 @@ mod plain_runs;
 #[cfg(test)]
 mod repair_runs;
 #[cfg(test)]
+mod repair_steps;
+#[cfg(test)]
 mod reservations;
 #[cfg(test)]
 mod tables;

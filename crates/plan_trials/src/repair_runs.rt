@@ -20,7 +20,12 @@ type Line = (u32, u64, u32, i64);
 
 /// Calls that are paid one by one, calls that are paid together after them, the keys that are left, and the shape,
 /// each node before those below it.
-type Run = (&'static [Called], &'static [Called], &'static [u64], &'static [Line]);
+type Run = (
+    &'static [Called],
+    &'static [Called],
+    &'static [u64],
+    &'static [Line],
+);
 
 /// More repairs than any of these trees asks for.
 const ENOUGH: u32 = 20_000;
@@ -83,7 +88,10 @@ fn leaves(
     let found = lines
         .iter()
         .map(|line| (line.depth, line.key, line.height, line.balance));
-    let are_left = listed.iter().copied().eq(keys.iter().map(|key| (*key, *key)));
+    let are_left = listed
+        .iter()
+        .copied()
+        .eq(keys.iter().map(|key| (*key, *key)));
     Ok(are_left && found.eq(wanted.iter().copied()))
 }
 
@@ -293,7 +301,10 @@ fn comes_into_balance(alloc: Global, rising: bool) -> Result<bool, Memory> {
     let paid = is_paid(&mut state);
     let listed = pairs(alloc, state.cells())?;
     let lines = shape(alloc, state.cells())?;
-    let are_left = listed.iter().copied().eq((1..=100u64).map(|key| (key, key)));
+    let are_left = listed
+        .iter()
+        .copied()
+        .eq((1..=100u64).map(|key| (key, key)));
     let close = lines.iter().all(|line| (-1..=1).contains(&line.balance));
     let low = lines.iter().all(|line| line.height <= 9);
     Ok(paid && are_left && close && low)

@@ -99,7 +99,8 @@ fn asks_so<P: Plan>(plan: &mut P, change: &mut Change, rows: &[Row]) -> bool {
     rows.iter().all(|row| plan.step(row.0, change) == row.1)
 }
 
-fn is_written(change: &Change, exchange: Exchange) -> bool {
+/// Whether the exchange that a plan wrote is this one.
+pub fn is_written(change: &Change, exchange: Exchange) -> bool {
     let lists = are_words(change.adds(), exchange.words) && debts(change) == exchange.charged;
     let rest = change.fresh == exchange.fresh && change.mark == exchange.mark;
     lists && rest && change.reply == exchange.reply
