@@ -125,12 +125,7 @@ fn run_input<R: Wait, S: Source>(
 }
 
 // Runs the script that bytes spell.
-fn run_bytes<R: Wait>(
-    rt: &R,
-    alloc: Global,
-    options: Options,
-    bytes: &[u8],
-) -> Result<Run, Fault>
+fn run_bytes<R: Wait>(rt: &R, alloc: Global, options: Options, bytes: &[u8]) -> Result<Run, Fault>
     requires { length bytes.now ≤ MOST_BYTES }
     ensures ok { IfOk result
         (λ run. RunsBytes options bytes.now run.map.entries run.pairs.items (lines_of run.shape)) }

@@ -1,5 +1,5 @@
 -- The pairs of the tree are the map that the history leaves, and the shape is that of the tree.
-use Rattle.std.proofs.Common.{◌≡◌, List, sym, ◌∙◌, subst}
+use Rattle.std.proofs.Common.{sym, ◌∙◌, subst}
 use Rattle.pc_model.specs.Map.{Pairs}
 use Rattle.pc_model.specs.Replay.{fold_of}
 use Rattle.pc_plain.specs.PlainCells.{PlainWords}

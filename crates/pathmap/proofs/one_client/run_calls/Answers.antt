@@ -42,8 +42,7 @@ loop-call-preserved g c =
     let old : MapState = c.loop-call.map in
     let new : MapState = c.run_call.new.map in
     let after : HasRun (take i calls ++ (call ∷ [])) new = one_more (take i calls) old new call c.loop-call.invariant.0
-    c.run_call.ensures.entries c.run_call.ensures.settled in
-    (
+    c.run_call.ensures.entries c.run_call.ensures.settled in (
       subst (λ (cs : List Call). HasRun cs new) (sym (take_more calls i (Put 0 0) inside)) after,
       record {
         kind = c.run_call.ensures.same.kind ∙ c.loop-call.invariant.1.kind;

@@ -1,5 +1,5 @@
 -- The calls before this one were run.
-use Rattle.std.proofs.Common.{◌≡◌, take}
+use Rattle.std.proofs.Common.{take}
 use Rattle.pc_locked.specs.States.{IsSameMap}
 use Rattle.pathmap.specs.OneClient.{HasRun}
 use Rattle.pathmap.proofs.one_client.run_calls.Given as goal

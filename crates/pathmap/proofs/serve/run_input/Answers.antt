@@ -1,5 +1,5 @@
 -- What was run is the script that the input spells.
-use Rattle.std.proofs.Common.{◌≡◌, ℕ, ◌≤◌, List, length, sym, ap, ◌∙◌, subst}
+use Rattle.std.proofs.Common.{ℕ, ◌≤◌, List, length, sym, ap, ◌∙◌, subst}
 use Rattle.pc_text.specs.declared.limits.TheConstants.{MOST_BYTES}
 use Rattle.pathmap.specs.Serving.{RunsBytes, SpellsScript, IsRefused}
 use Rattle.pathmap.specs.OneClient.{lines_of}
