@@ -17,7 +17,8 @@ mod tree_kind;
 pub use charges::debts;
 pub use get::AvlGet;
 pub use laws::{
-    plans_end_as_their_calls_do, plans_stand_for_their_calls, repairs_end_by_cases, slots_are_for_new_keys,
+    plans_end_as_their_calls_do, plans_stand_for_their_calls, repairs_end_by_cases,
+    slots_are_for_new_keys,
 };
 pub use put::AvlPut;
 pub use remove::AvlRemove;

@@ -3,7 +3,6 @@
 -- whose key it was told, and at a link that names no node.
 use Rattle.std.proofs.Common.{◌≡◌, ◌≢◌, ℕ, suc, ◌+◌, ◌*◌, ◌<◌, ◌≤◌, ◌==◌, inl, ⊎_elim, false, List, [], ◌∷◌, Some}
 use Rattle.std.proofs.Common.{None, refl, sym, ap, ◌∙◌, subst, arith}
-use Rattle.std.specs.Prelude.{max}
 use Rattle.std.proofs.lemmas.Bool.{ne_eqb, cases_order, lt-ltb, le-ltb, cond-true, cond-false}
 use Rattle.std.specs.Prelude.{nat_lt}
 use Rattle.pc_model.specs.declared.cell.Field.{Field}
