@@ -1,9 +1,11 @@
 -- What a repair is to do at a node of a balanced tree, by the heights that the cells store: nothing where the
 -- node is in balance, another height where its children's are close, else a rotation, unless a node below is
 -- out of balance and comes first.
-use Rattle.std.specs.Prelude.{◌≡◌, ℕ, ◌+◌, ◌<◌, ◌≤◌, ◌⊎◌, List, ◌∷◌, Some, None}
+use Rattle.std.specs.Prelude.{◌≡◌, ℕ, ◌+◌, ◌^◌, ◌<◌, ◌≤◌, ◌⊎◌, List, ◌∷◌, Some, None}
 use Rattle.pc_model.specs.declared.call.Reply.{Reply}
-use Rattle.pc_model.specs.declared.call.Reply.TheVariants.{Was, Value, None as Nothing}
+use Rattle.pc_model.specs.declared.call.Reply.TheVariants.{Was, Value, Pair, None as Nothing}
+use Rattle.pc_model.specs.declared.owed.Settle.{Settle}
+use Rattle.pc_model.specs.declared.owed.Settle.TheVariants.{Release, First, Raise}
 use Rattle.pc_model.specs.declared.cell.Field.{Field}
 use Rattle.pc_model.specs.declared.cell.Field.TheVariants.{Version, Key, Left, Right, Height}
 use Rattle.pc_model.specs.declared.cell.Side.{Side}
@@ -14,9 +16,7 @@ use Rattle.pc_model.specs.Sides.{link_of, opposite}
 use Rattle.pc_model.specs.Trees.{balanced, pair_of, IsTreeNode}
 use Rattle.pc_model.specs.Forms.{Form}
 use Rattle.pc_model.specs.TreeForms.{tree_form, height_at, height_over, AreClose, IsInBalance}
-use Rattle.pc_model.proofs.Reheighting.{IsReheighted, height_asked}
-use Rattle.pc_model.proofs.Rotation.{IsRotated}
-use Rattle.pc_model.proofs.DoubleRotation.{IsDoublyRotated}
+use Rattle.pc_model.specs.Rotations.{IsReheighted, height_asked, IsRotated, IsDoublyRotated}
 use Rattle.pc_plan.specs.declared.plan.Ask.{Ask}
 use Rattle.pc_plan.specs.declared.plan.Ask.TheVariants.{Visit, Read, Change, Answer}
 use Rattle.pc_plan.specs.Traces.{Event}
@@ -131,9 +131,20 @@ EndsByCases {P} start moves aim =
     → AgreesWith start moves c k ts
     → IsAtEndOfRepair aim k slots c ps (past_of start moves k ts) (reached start moves k ts).1
 
+-- The repair of a key releases it where it answers that nothing is to do, or mends, and puts a key of a node below
+-- first where it names it. The repair of the nearest key lets the number go where there is none, and raises it past
+-- the key whose node is in balance.
+abbrev pub SettlesAsRepair : Aim → ℕ → (Reply → Settle) → Type 0
+SettlesAsRepair Exact k settles = (settles Nothing ≡ Release k) × ((x : ℕ) → settles (Was x) ≡ Release k)
+    × ((y : ℕ) → settles (Value y) ≡ First y)
+SettlesAsRepair Nearest k settles = (settles Nothing ≡ Raise None)
+    × ((x v : ℕ) → x < 2 ^ 62 → settles (Pair x v) ≡ Raise (Some (x + 1)))
+    × ((y : ℕ) → settles (Value y) ≡ First y)
+
 -- the plan is a repair of every number, on balanced search trees: it records nothing, leaves the pairs as they
 -- are, and settles as a repair does
 pub record StandsForRepair (terms : ℕ → Terms) (can_call : ℕ → Type 0) (form : Form) (aim : Aim) : Type 0 where
   pub terms_are : (k : ℕ) → terms k ≡ repair_terms aim k
+  pub settles : (k : ℕ) → SettlesAsRepair aim k (terms k).settles
   pub can_be_called : (k : ℕ) → can_call k
   pub form_is : AreSameForms form (tree_form balanced)

@@ -21,10 +21,11 @@ use Rattle.pc_model.proofs.DebtsBrought.{IsCharged}
 use Rattle.pc_model.proofs.Holes.{Hole, hole_apart}
 use Rattle.pc_model.proofs.Sides.{SpellsOn, spells_on, ApartOn, apart_on, in_root, in_near, in_far}
 use Rattle.pc_model.proofs.NodeKeys.{in_balance_not_in_debt, none_in_debt_to_nearest}
-use Rattle.pc_model.proofs.Reheighting.{IsReheighted, height_asked, reheighted, reheighted_in_balance, reheighted_brings_only}
+use Rattle.pc_model.specs.Rotations.{IsReheighted, height_asked, IsRotated, IsDoublyRotated}
+use Rattle.pc_model.proofs.Reheighting.{reheighted, reheighted_in_balance, reheighted_brings_only}
 use Rattle.pc_model.proofs.Reheighting.{height_over-small}
-use Rattle.pc_model.proofs.Rotation.{IsRotated, rotated, rotated_brings_only}
-use Rattle.pc_model.proofs.DoubleRotation.{IsDoublyRotated, doubly_rotated, doubly_rotated_brings_only}
+use Rattle.pc_model.proofs.Rotation.{rotated, rotated_brings_only}
+use Rattle.pc_model.proofs.DoubleRotation.{doubly_rotated, doubly_rotated_brings_only}
 use Rattle.pc_plan.specs.declared.plan.Ask.{Ask}
 use Rattle.pc_plan.specs.declared.plan.Ask.TheVariants.{Change, Answer}
 use Rattle.pc_plan.specs.NodeChanges.{ByNodes, planned_by}

@@ -16,9 +16,8 @@ use Rattle.pc_model.specs.Sides.{link_of, opposite}
 use Rattle.pc_model.specs.Trees.{balanced, IsSearchTree}
 use Rattle.pc_model.specs.TreeForms.{tree_form, height_at, height_over}
 use Rattle.pc_model.proofs.DebtsBrought.{BringsOnly}
-use Rattle.pc_model.proofs.Reheighting.{IsReheighted, height_over-small}
-use Rattle.pc_model.proofs.Rotation.{IsRotated}
-use Rattle.pc_model.proofs.DoubleRotation.{IsDoublyRotated}
+use Rattle.pc_model.specs.Rotations.{IsReheighted, IsRotated, IsDoublyRotated}
+use Rattle.pc_model.proofs.Reheighting.{height_over-small}
 use Rattle.pc_plan.specs.declared.walk.Above.{Above}
 use Rattle.pc_plan.specs.NodeChanges.{NodeChange, adds_of, ByNodes, planned_by}
 use Rattle.pc_plan.specs.Traces.{Event}

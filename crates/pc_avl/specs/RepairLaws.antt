@@ -1,5 +1,5 @@
 -- The laws of repairs.
-use Rattle.std.proofs.Common.{ℕ, ◌+◌, ◌*◌, List, [], arith}
+use Rattle.std.proofs.Common.{ℕ, ◌+◌, ◌*◌, List, [], Some, refl, ap, arith}
 use Rattle.pc_model.specs.Map.{Pairs}
 use Rattle.pc_model.specs.Cells.{Cells}
 use Rattle.pc_model.specs.Trees.{balanced}
@@ -15,10 +15,12 @@ use Rattle.pc_plan.proofs.Courses.{Course, IsOnCourse, EndsRight, runs_by_course
 use Rattle.pc_avl.specs.declared.repair.Aim.{Aim}
 use Rattle.pc_avl.specs.declared.repair.Aim.TheVariants.{Exact, Nearest}
 use Rattle.pc_avl.specs.Repairs.{repair_of, repair_moves}
-use Rattle.pc_avl.specs.RepairCases.{EndsAsRepair, IsAtEndOfRepair, EndsByCases}
+use Rattle.pc_avl.specs.RepairCases.{EndsAsRepair, IsAtEndOfRepair, EndsByCases, SettlesAsRepair}
+use Rattle.pc_avl.specs.RepairCases.{StandsForRepair}
 use Rattle.pc_avl.specs.RepairLawful.{repair_lawful}
 use Rattle.pc_avl.specs.RepairSearches.{search_course}
-use Rattle.pc_avl.specs.RepairTerms.{repair_terms}
+use Rattle.pc_avl.specs.RepairTerms.{settles_by, repair_terms}
+use Rattle.pc_model.specs.declared.owed.Settle.TheVariants.{Raise}
 use Rattle.pc_avl.specs.RepairWalks.{repair_course}
 
 -- what is wanted of a repair's end: it is right, and as a repair is to end
@@ -64,3 +66,16 @@ repair_ends aim slots c ps k ts ready agrees = at_end aim slots c ps k (past_of 
     (along_course (repair_of aim) repair_moves (λ (n : ℕ). Unit {0}) (repair_terms aim) (tree_form balanced)
     (Wanted aim) (λ slots c ps k past a h. h.0) turns (λ slots. omega arith)
     (λ slots c ps k ready can. course aim slots c ps k ready) slots c ps k ts ready tt agrees)
+
+-- what a repair settles, in plain words
+settles_as : (aim : Aim) (k : ℕ) → SettlesAsRepair aim k (settles_by aim k)
+settles_as Exact k = (refl, λ x. refl, λ y. refl)
+settles_as Nearest k = (refl, λ x v small. ap (λ (n : ℕ). Raise (Some n)) (omega (arith, small)), λ y. refl)
+
+pub stands_for_repair : (aim : Aim) → StandsForRepair (repair_terms aim) (λ (k : ℕ). Unit {0}) (tree_form balanced) aim
+stands_for_repair aim = record {
+  terms_are = λ k. refl;
+  settles = λ k. settles_as aim k;
+  can_be_called = λ k. tt;
+  form_is = record { sound = λ slots c ps. ((λ h. h), (λ h. h)); in_debt = λ slots c k. ((λ h. h), (λ h. h)) };
+}

@@ -1,7 +1,7 @@
 -- A double rotation of a balanced tree: the child of a node's child, on the inner side, takes the node's
 -- place, and both hang below it. The tree's pairs stay, and the debts that this may bring are those of the
 -- three nodes and of the node above them.
-use Rattle.std.proofs.Common.{◌≡◌, ◌≢◌, ℕ, ◌^◌, ◌<◌, ◌⊎◌, inl, inr, ⊎_elim, List, [], ◌∷◌, refl, sym, ◌∙◌, subst}
+use Rattle.std.proofs.Common.{◌≡◌, ◌≢◌, ℕ, ◌⊎◌, inl, inr, ⊎_elim, List, [], ◌∷◌, refl, sym, ◌∙◌, subst}
 use Rattle.std.proofs.Common.{IsTrue, arith}
 use Rattle.pc_model.specs.declared.cell.Field.{Field}
 use Rattle.pc_model.specs.declared.cell.Field.TheVariants.{Version, Key, Value, Parent, Height}
@@ -11,6 +11,7 @@ use Rattle.pc_model.specs.Cells.{Cells, IsNode}
 use Rattle.pc_model.specs.Debts.{has}
 use Rattle.pc_model.specs.Trees.{Tree, Fork, balanced, Spells, IsIn, pairs_of, IsSearchTree}
 use Rattle.pc_model.specs.Sides.{link_of, opposite, fork_on}
+use Rattle.pc_model.specs.Rotations.{IsDoublyRotated}
 use Rattle.pc_model.proofs.Framing.{IsKept, spells_kept, pairs_same, unmarked_in, IsRehung, spells_rehung}
 use Rattle.pc_model.proofs.TreeNodes.{root_is_in}
 use Rattle.pc_model.proofs.Holes.{Framed, Hole, hole_rising, refilled_same}
@@ -18,39 +19,8 @@ use Rattle.pc_model.proofs.Links.{IsLinkAlone, link_alone}
 use Rattle.pc_model.proofs.Sides.{link_of-is_link, opposite_differs, SpellsOn, spells_on, spells_from_side, in_root}
 use Rattle.pc_model.proofs.Sides.{in_near, in_far, in_which, ApartOn, apart_on}
 use Rattle.pc_model.proofs.DebtsBrought.{IsAmong, IsConfinedTo, IsCharged, BringsOnly, brings_only, charged_still}
-use Rattle.pc_model.proofs.Turning.{ChangesOnly, root_apart, ForkAt, fork_at, ChildOn, child_on, pairs_turned}
+use Rattle.pc_model.proofs.Turning.{root_apart, ForkAt, fork_at, ChildOn, child_on, pairs_turned}
 use Rattle.pc_model.proofs.Turning.{pairs_on_side}
-
--- the words that a double rotation changes, of a node x, its child y on a side and that one's child g on
--- the other side
-abbrev pub doubly_rotated_words : Side → Cells → ℕ → Field → ℕ → ℕ → ℕ → List (ℕ × List Field)
-doubly_rotated_words side c above link x y g = (above, link ∷ []) ∷ (x, link_of side ∷ Parent ∷ Height ∷ [])
-    ∷ (y, link_of (opposite side) ∷ Parent ∷ Height ∷ [])
-    ∷ (g, link_of side ∷ link_of (opposite side) ∷ Parent ∷ Height ∷ [])
-    ∷ (c g (link_of side), Parent ∷ []) ∷ (c g (link_of (opposite side)), Parent ∷ []) ∷ []
-
--- The child g of y on the other side, where y is the child of x on this side, took x's place below the
--- node above. On this side of g hangs y, with what hung there of g on its other side, and on the other
--- side of g hangs x, with what hung there of g on its side. The three nodes have some heights.
-pub record IsDoublyRotated (side : Side) (c c' : Cells) (above : ℕ) (link : Field) (x y g : ℕ) : Type 0 where
-  pub was_child : c x (link_of side) ≡ y
-  pub some_child : y ≢ 0
-  pub was_inner : c y (link_of (opposite side)) ≡ g
-  pub some_inner : g ≢ 0
-  pub linked : c' above link ≡ g
-  pub near_linked : c' g (link_of side) ≡ y
-  pub far_linked : c' g (link_of (opposite side)) ≡ x
-  pub near_inner : c' y (link_of (opposite side)) ≡ c g (link_of side)
-  pub far_inner : c' x (link_of side) ≡ c g (link_of (opposite side))
-  pub parent_g : c' g Parent ≡ above
-  pub parent_y : c' y Parent ≡ g
-  pub parent_x : c' x Parent ≡ g
-  pub near_parent : c g (link_of side) ≢ 0 → c' (c g (link_of side)) Parent ≡ y
-  pub far_parent : c g (link_of (opposite side)) ≢ 0 → c' (c g (link_of (opposite side))) Parent ≡ x
-  pub height_g : c' g Height < 2 ^ 62
-  pub height_y : c' y Height < 2 ^ 62
-  pub height_x : c' x Height < 2 ^ 62
-  pub others : ChangesOnly (doubly_rotated_words side c above link x y g) c c'
 
 module _ (slots : ℕ) (c : Cells) (ps : Pairs) (s : IsSearchTree balanced slots c ps) (k above : ℕ) (link : Field)
     (side : Side) (x y g : ℕ) (near near_in far_in far : Tree)

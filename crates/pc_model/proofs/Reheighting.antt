@@ -1,7 +1,7 @@
 -- A node of a balanced tree gets another stored height: the tree and its pairs stay, the debt that this
 -- may bring is that of the node above it, and with the height that its children ask for the node is in
 -- balance.
-use Rattle.std.proofs.Common.{◌≡◌, ◌≢◌, ℕ, ◌%◌, ◌^◌, ◌<◌, ◌==◌, inl, inr, ⊎_elim, if◌then◌else◌, List, [], ◌∷◌}
+use Rattle.std.proofs.Common.{◌≡◌, ◌≢◌, ℕ, ◌^◌, ◌<◌, ◌==◌, inl, inr, ⊎_elim, if◌then◌else◌, List, [], ◌∷◌}
 use Rattle.std.proofs.Common.{refl, sym, ap, ◌∙◌, subst, arith}
 use Rattle.pc_model.specs.declared.cell.Field.{Field}
 use Rattle.pc_model.specs.declared.cell.Field.TheVariants.{Version, Key, Value, Left, Right, Parent, Height}
@@ -9,22 +9,12 @@ use Rattle.pc_model.specs.Map.{Pairs}
 use Rattle.pc_model.specs.Cells.{Cells}
 use Rattle.pc_model.specs.Trees.{Tree, Empty, Fork, balanced, IsTreeNode, Spells, IsIn, pairs_of, IsSearchTree}
 use Rattle.pc_model.specs.TreeForms.{height_at, height_over, AreClose, IsInBalanceOver, IsInBalance, InDebt}
+use Rattle.pc_model.specs.Rotations.{IsReheighted, height_asked}
 use Rattle.pc_model.proofs.Framing.{IsKept, spells_kept, pairs_same, unmarked_in, Apart}
 use Rattle.pc_model.proofs.Holes.{Framed, Hole, hole_apart, refilled_same}
 use Rattle.pc_model.proofs.Links.{link_alone}
 use Rattle.pc_model.proofs.NodeKeys.{in_balance_not_in_debt}
 use Rattle.pc_model.proofs.DebtsBrought.{IsConfinedTo, IsCharged, BringsOnly, brings_only, charged_still}
-
--- a node has another stored height
-pub record IsReheighted (c c' : Cells) (n height : ℕ) : Type 0 where
-  pub stored : c' n Height ≡ height
-  -- other words stay, and versions keep their parity
-  pub words : (m : ℕ) (f : Field) → f ≢ Version → (m ≡ n → f ≢ Height) → c' m f ≡ c m f
-  pub parity : (m : ℕ) → c' m Version % 2 ≡ c m Version % 2
-
--- the height that a node's children ask for
-abbrev pub height_asked : Cells → ℕ → ℕ
-height_asked c n = height_over (height_at c (c n Left)) (height_at c (c n Right))
 
 pub height_over-small : (a b : ℕ) → height_over a b < 2 ^ 62
 height_over-small a b = omega arith

@@ -1,7 +1,7 @@
 -- A single rotation of a balanced tree: a node's child takes its place, and the node hangs below the
 -- child. The tree's pairs stay, and the debts that this may bring are those of the two nodes and of the
 -- node above them.
-use Rattle.std.proofs.Common.{◌≡◌, ◌≢◌, ℕ, ◌^◌, ◌<◌, ◌⊎◌, inl, inr, ⊎_elim, List, [], ◌∷◌, refl, sym, ◌∙◌, subst}
+use Rattle.std.proofs.Common.{◌≡◌, ◌≢◌, ℕ, ◌⊎◌, inl, inr, ⊎_elim, List, [], ◌∷◌, refl, sym, ◌∙◌, subst}
 use Rattle.std.proofs.Common.{IsTrue, arith}
 use Rattle.pc_model.specs.declared.cell.Field.{Field}
 use Rattle.pc_model.specs.declared.cell.Field.TheVariants.{Version, Key, Value, Parent, Height}
@@ -11,6 +11,7 @@ use Rattle.pc_model.specs.Cells.{Cells, IsNode}
 use Rattle.pc_model.specs.Debts.{has}
 use Rattle.pc_model.specs.Trees.{Tree, Fork, balanced, Spells, IsIn, pairs_of, IsSearchTree}
 use Rattle.pc_model.specs.Sides.{link_of, opposite, fork_on}
+use Rattle.pc_model.specs.Rotations.{IsRotated}
 use Rattle.pc_model.proofs.Framing.{IsKept, spells_kept, pairs_same, unmarked_in, IsRehung, spells_rehung}
 use Rattle.pc_model.proofs.TreeNodes.{root_is_in}
 use Rattle.pc_model.proofs.Holes.{Framed, Hole, hole_rising, refilled_same}
@@ -18,27 +19,7 @@ use Rattle.pc_model.proofs.Links.{IsLinkAlone, link_alone}
 use Rattle.pc_model.proofs.Sides.{link_of-is_link, opposite_differs, SpellsOn, spells_on, spells_from_side, in_root}
 use Rattle.pc_model.proofs.Sides.{in_near, in_far, in_which, ApartOn, apart_on}
 use Rattle.pc_model.proofs.DebtsBrought.{IsConfinedTo, IsCharged, BringsOnly, brings_only, charged_still}
-use Rattle.pc_model.proofs.Turning.{ChangesOnly, root_apart, ChildOn, child_on, pairs_turned}
-
--- the words that a rotation of a node x and its child y on a side changes
-abbrev pub rotated_words : Side → Cells → ℕ → Field → ℕ → ℕ → List (ℕ × List Field)
-rotated_words side c above link x y = (above, link ∷ []) ∷ (x, link_of side ∷ Parent ∷ Height ∷ [])
-    ∷ (y, link_of (opposite side) ∷ Parent ∷ Height ∷ []) ∷ (c y (link_of (opposite side)), Parent ∷ []) ∷ []
-
--- The child y of x on this side took its place below the node above, x hangs on y's other side, and the
--- tree that hung there, or none, hangs on x's side. Both nodes have some heights.
-pub record IsRotated (side : Side) (c c' : Cells) (above : ℕ) (link : Field) (x y : ℕ) : Type 0 where
-  pub was : c x (link_of side) ≡ y
-  pub some : y ≢ 0
-  pub linked : c' above link ≡ y
-  pub upper_far : c' y (link_of (opposite side)) ≡ x
-  pub lower_near : c' x (link_of side) ≡ c y (link_of (opposite side))
-  pub upper_parent : c' y Parent ≡ above
-  pub lower_parent : c' x Parent ≡ y
-  pub middle_parent : c y (link_of (opposite side)) ≢ 0 → c' (c y (link_of (opposite side))) Parent ≡ x
-  pub upper_height : c' y Height < 2 ^ 62
-  pub lower_height : c' x Height < 2 ^ 62
-  pub others : ChangesOnly (rotated_words side c above link x y) c c'
+use Rattle.pc_model.proofs.Turning.{root_apart, ChildOn, child_on, pairs_turned}
 
 module _ (slots : ℕ) (c : Cells) (ps : Pairs) (s : IsSearchTree balanced slots c ps) (k above : ℕ) (link : Field)
     (side : Side) (x y : ℕ) (near middle far : Tree)

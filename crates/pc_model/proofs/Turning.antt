@@ -1,8 +1,7 @@
 -- Trees that are turned below a link: the same nodes in the same order, with another root. And what a
 -- change of some words leaves.
-use Rattle.std.proofs.Common.{◌≡◌, ◌≢◌, ℕ, ◌%◌, ⊎_elim, List, [], ◌∷◌, ◌++◌, sym, subst, append_assoc}
+use Rattle.std.proofs.Common.{◌≡◌, ◌≢◌, ℕ, ⊎_elim, ◌∷◌, ◌++◌, sym, subst, append_assoc}
 use Rattle.pc_model.specs.declared.cell.Field.{Field}
-use Rattle.pc_model.specs.declared.cell.Field.TheVariants.{Version}
 use Rattle.pc_model.specs.declared.cell.Side.{Side}
 use Rattle.pc_model.specs.declared.cell.Side.TheVariants.{Left as left, Right as right}
 use Rattle.pc_model.specs.Map.{Pairs}
@@ -12,22 +11,6 @@ use Rattle.pc_model.specs.Sides.{link_of, fork_on}
 use Rattle.pc_model.proofs.TreeNodes.{root_is_in, zero_outside}
 use Rattle.pc_model.proofs.Holes.{Hole}
 use Rattle.pc_model.proofs.Sides.{SpellsOn, spells_on}
-
--- Words that are changed: some fields of some nodes
-
-abbrev pub IsNoneOf : Field → List Field → Type 0
-IsNoneOf f [] = Unit {0}
-IsNoneOf f (g ∷ gs) = (f ≢ g) × IsNoneOf f gs
-
--- the word is none of these
-abbrev pub IsElsewhere : ℕ → Field → List (ℕ × List Field) → Type 0
-IsElsewhere m f [] = Unit {0}
-IsElsewhere m f (w ∷ ws) = (m ≡ w.0 → IsNoneOf f w.1) × IsElsewhere m f ws
-
--- other words than these stay, and versions keep their parity
-pub record ChangesOnly (changed : List (ℕ × List Field)) (c c' : Cells) : Type 0 where
-  pub words : (m : ℕ) (f : Field) → f ≢ Version → IsElsewhere m f changed → c' m f ≡ c m f
-  pub parity : (m : ℕ) → c' m Version % 2 ≡ c m Version % 2
 
 -- Trees seen from a side
 

@@ -12,8 +12,9 @@ use Rattle.pc_model.specs.Trees.{Empty, Fork, balanced, IsSearchTree}
 use Rattle.pc_model.specs.TreeForms.{IsInBalance, InDebt}
 use Rattle.pc_model.proofs.Writes.{applied-else, applied-parity}
 use Rattle.pc_model.proofs.Holes.{root_hole}
-use Rattle.pc_model.proofs.Rotation.{IsRotated, rotated}
-use Rattle.pc_model.proofs.DoubleRotation.{IsDoublyRotated, doubly_rotated}
+use Rattle.pc_model.specs.Rotations.{IsRotated, IsDoublyRotated}
+use Rattle.pc_model.proofs.Rotation.{rotated}
+use Rattle.pc_model.proofs.DoubleRotation.{doubly_rotated}
 
 -- a node at version 2 with this key, value 7, these links, this parent and this height
 abbrev node : ℕ → ℕ → ℕ → ℕ → ℕ → Field → ℕ

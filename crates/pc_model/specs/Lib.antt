@@ -16,6 +16,7 @@ pub mod MapLaws
 pub mod ReadingLaws
 pub mod Readings
 pub mod Replay
+pub mod Rotations
 pub mod Sides
 pub mod TreeForms
 pub mod Trees
