@@ -1,7 +1,8 @@
 #!/usr/bin/env bash
 # Times pathmap beside two plain Rust programs, one over std's BTreeMap and one with the same tree by direct
-# loops, on scripts made by seed. The three run by turns, what they print is compared byte by byte, and one
-# table says how long each took, in processor time.
+# loops, the plain tree or, in the cases of `--tree avl`, the balanced one with the same repairs, on scripts made
+# by seed. The three run by turns, what they print is compared byte by byte, and one table says how long each
+# took, in processor time.
 #
 #   bash bench/all.sh [ROUNDS] [CASE..]     ROUNDS of each case (21), but a tenth of them of the line, which
 #                                           takes half a minute a round; all cases, or these: see cases.py
@@ -11,7 +12,7 @@ root=$(dirname "$here")
 build=$here/build
 mkdir -p "$build"
 printf '' | "$root/bin/pathmap" >/dev/null
-for program in btree_map direct_tree; do
+for program in btree_map direct_tree relaxed_avl; do
     rustc -O --edition 2021 -o "$build/$program" "$here/$program.rs"
 done
 python3 "$here/measure.py" "$root/crates/pathmap/out/pathmap" "$build" "$@"

@@ -20,6 +20,8 @@ class Case:
     lines: list[str]
     # One of so many rounds is run.
     every: int = 1
+    # The kind of tree, as the program's word has it.
+    tree: str = "bst"
 
 
 @dataclass
@@ -79,8 +81,14 @@ def reading():
     yield "get +1"
 
 
+def puts():
+    """Puts of keys below a million."""
+    dice = random.Random(6)
+    return (f"put {dice.randrange(1_000_000)} {dice.randrange(10**9)}" for _ in range(COMMANDS))
+
+
 def line():
-    """Rising keys, which make the tree one line of nodes."""
+    """Rising keys, which make the plain tree one line of nodes."""
     return (f"put {key} {key}" for key in range(COMMANDS))
 
 
@@ -109,6 +117,11 @@ def all_cases():
     yield Case("all_five", list(all_five()))
     yield Case("reading", list(reading()))
     yield Case("line", list(line()), every=10)
+    yield Case("avl put_get", list(put_get()), tree="avl")
+    yield Case("avl puts", list(puts()), tree="avl")
+    yield Case("avl line", list(line()), tree="avl")
+    yield Case("avl fill_drain", list(fill_drain()), tree="avl")
+    yield Case("avl put_remove", list(put_remove()), tree="avl")
     for word in ["get", "put", "remove", "ceil", "floor"]:
         yield visits(word)
     for word in ["ceil", "floor"]:

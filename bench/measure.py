@@ -5,7 +5,7 @@
 A time is the processor time of a run, the program's and the system's for it, so that what else runs on the
 machine counts little. All runs are held to one processor. The spread is the distance of the quartiles, in
 hundredths of the median. A ratio is the median of the rounds' ratios, since what disturbs a round disturbs
-all programs in it.
+all programs in it. Under the balanced tree a line says how many repairs there were.
 """
 import os
 import statistics
@@ -15,10 +15,10 @@ import sys
 from cases import Case, Visits, all_cases
 
 
-def run(program, script, printed):
+def run(words, script, printed):
     """Runs a program on a script, and gives its status and the seconds of processor time that it took."""
     with open(script, "rb") as given, open(printed, "wb") as out:
-        child = subprocess.Popen([program], stdin=given, stdout=out)
+        child = subprocess.Popen(words, stdin=given, stdout=out)
         _, status, usage = os.wait4(child.pid, 0)
         child.returncode = os.waitstatus_to_exitcode(status)
     return child.returncode, usage.ru_utime + usage.ru_stime
@@ -32,7 +32,7 @@ def written(build, name, lines):
 
 
 def rounds_of(programs, scripts, build, rounds):
-    """The times of each program on each script, by rounds, where each program ends alike on each script."""
+    """The times of each program on each script, by rounds, where all end alike on each script."""
     times = {name: [] for name in programs}
     ends = {}
     for turn in range(rounds):
@@ -50,6 +50,23 @@ def rounds_of(programs, scripts, build, rounds):
                 took.append(seconds)
             times[name].append(took)
     return times
+
+
+def repairs_of(case, programs, build):
+    """How often the balanced tree was repaired, how often by a change, and how many commands made it so.
+
+    The program and the direct one print the same shape then, so they made the same repairs.
+    """
+    script = written(build, case.name, case.lines)
+    with open(script, "rb") as given:
+        text = given.read()
+    pathmap = subprocess.run(programs["pathmap"] + ["--shape"], input=text, capture_output=True, check=True)
+    direct = subprocess.run(programs["direct"] + ["--shape", "--repairs"], input=text, capture_output=True, check=True)
+    if pathmap.stdout != direct.stdout:
+        sys.exit(f"the shapes differ on {script}")
+    repairs, changes = map(int, direct.stderr.split())
+    commands = sum(not line.startswith("get") for line in case.lines)
+    return f"{repairs / commands:.2f} repairs a put or remove, {changes / commands:.2f} of them with a change"
 
 
 def measured(case, programs, build, rounds):
@@ -91,16 +108,23 @@ def main():
     rounds = int(rest[0]) if rest else 21
     wanted = rest[1:]
     os.sched_setaffinity(0, {max(os.sched_getaffinity(0))})
+    std = [os.path.join(build, "btree_map")]
     programs = {
-        "pathmap": pathmap,
-        "direct": os.path.join(build, "direct_tree"),
-        "BTreeMap": os.path.join(build, "btree_map"),
+        "bst": {"pathmap": [pathmap], "direct": [os.path.join(build, "direct_tree")], "BTreeMap": std},
+        "avl": {
+            "pathmap": [pathmap, "--tree", "avl"],
+            "direct": [os.path.join(build, "relaxed_avl")],
+            "BTreeMap": std,
+        },
     }
     print(f"{'case':14} {'program':9} {'median':>13} {'least':>13} {'spread':>8} /BTreeMap /direct")
     for case in all_cases():
         if not wanted or case.name in wanted:
-            unit, numbers = measured(case, programs, build, rounds)
+            tree = getattr(case, "tree", "bst")
+            unit, numbers = measured(case, programs[tree], build, rounds)
             print_rows(case, unit, numbers)
+            if tree == "avl":
+                print(f"{case.name:14} {repairs_of(case, programs[tree], build)}", flush=True)
 
 
 main()

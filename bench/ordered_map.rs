@@ -1,7 +1,7 @@
-//! What the plain programs share: they read a script, run it on an ordered map as they print each reply,
-//! and end with the map that is left, in pathmap's own words and with its status.
+//! What the plain programs share: they read a script, run it on an ordered map, and print each reply and the map
+//! that is left, in pathmap's own words and with its status.
 use crate::script::{self, Call};
-use std::io::{self, BufWriter, Read, Write};
+use std::io::{self, BufWriter, Read, StdoutLock, Write};
 use std::process::ExitCode;
 
 /// An ordered map as a script uses it.
@@ -17,14 +17,32 @@ pub trait OrderedMap {
     fn pairs(&self) -> impl Iterator<Item = (u64, u64)>;
 }
 
-/// Runs the script on standard input.
+/// What a call replies.
+#[derive(Clone, Copy)]
+pub enum Reply {
+    New,
+    Was(u64),
+    Value(u64),
+    Missing,
+    Pair(u64, u64),
+}
+
+/// Runs the script on standard input on a map of this kind.
 pub fn serve<M: OrderedMap>() -> io::Result<ExitCode> {
+    with_calls(run::<M>)
+}
+
+/// Reads the script on standard input, and runs the calls of its one client so.
+pub fn with_calls<F>(run: F) -> io::Result<ExitCode>
+where
+    F: FnOnce(&mut BufWriter<StdoutLock<'static>>, &[Call]) -> io::Result<()>,
+{
     let mut bytes = Vec::new();
     io::stdin().lock().read_to_end(&mut bytes)?;
     let mut out = BufWriter::new(io::stdout().lock());
     let status = match script::read(&bytes) {
         Ok(lists) if lists.len() == 1 => {
-            run::<M>(&mut out, &lists[0])?;
+            run(&mut out, &lists[0])?;
             0
         }
         Ok(_) => {
@@ -41,39 +59,56 @@ pub fn serve<M: OrderedMap>() -> io::Result<ExitCode> {
 }
 
 fn run<M: OrderedMap>(out: &mut impl Write, calls: &[Call]) -> io::Result<()> {
-    let puts = calls.iter().filter(|call| matches!(call, Call::Put(..))).count();
-    let mut map = M::with_room(puts);
+    let mut map = M::with_room(room_for(calls));
     for (i, call) in calls.iter().enumerate() {
-        answer(out, i + 1, &mut map, *call)?;
+        let reply = reply_of(&mut map, *call);
+        line(out, i as u64 + 1, 1, i as u32 + 1, *call, reply)?;
     }
+    print_pairs(out, &map)?;
+    writeln!(out, "end")
+}
+
+/// As many pairs as the calls can put.
+pub fn room_for(calls: &[Call]) -> usize {
+    calls.iter().filter(|call| matches!(call, Call::Put(..))).count()
+}
+
+/// Makes a call.
+pub fn reply_of(map: &mut impl OrderedMap, call: Call) -> Reply {
+    let value = |value: Option<u64>| value.map_or(Reply::Missing, Reply::Value);
+    let pair = |pair: Option<(u64, u64)>| pair.map_or(Reply::Missing, |(key, value)| Reply::Pair(key, value));
+    match call {
+        Call::Put(key, value) => map.put(key, value).map_or(Reply::New, Reply::Was),
+        Call::Get(key) => value(map.get(key)),
+        Call::Remove(key) => value(map.remove(key)),
+        Call::Ceil(key) => pair(map.ceil(key)),
+        Call::Floor(key) => pair(map.floor(key)),
+    }
+}
+
+/// Prints a call with its reply.
+pub fn line(out: &mut impl Write, place: u64, client: u32, number: u32, call: Call, reply: Reply) -> io::Result<()> {
+    match call {
+        Call::Put(key, value) => write!(out, "{place} {client}.{number} put {key} {value} = ")?,
+        Call::Get(key) => write!(out, "{place} {client}.{number} get {key} = ")?,
+        Call::Remove(key) => write!(out, "{place} {client}.{number} remove {key} = ")?,
+        Call::Ceil(key) => write!(out, "{place} {client}.{number} ceil {key} = ")?,
+        Call::Floor(key) => write!(out, "{place} {client}.{number} floor {key} = ")?,
+    }
+    match reply {
+        Reply::New => writeln!(out, "new"),
+        Reply::Was(value) => writeln!(out, "was {value}"),
+        Reply::Value(value) => writeln!(out, "{value}"),
+        Reply::Missing => writeln!(out, "none"),
+        Reply::Pair(key, value) => writeln!(out, "{key} {value}"),
+    }
+}
+
+/// Prints the pairs that are left.
+pub fn print_pairs(out: &mut impl Write, map: &impl OrderedMap) -> io::Result<()> {
     writeln!(out, "left {}", map.len())?;
     for (key, value) in map.pairs() {
         writeln!(out, "{key} {value}")?;
     }
-    writeln!(out, "end")
-}
-
-fn answer(out: &mut impl Write, n: usize, map: &mut impl OrderedMap, call: Call) -> io::Result<()> {
-    match call {
-        Call::Put(key, value) => match map.put(key, value) {
-            None => writeln!(out, "{n} 1.{n} put {key} {value} = new"),
-            Some(old) => writeln!(out, "{n} 1.{n} put {key} {value} = was {old}"),
-        },
-        Call::Get(key) => match map.get(key) {
-            None => writeln!(out, "{n} 1.{n} get {key} = none"),
-            Some(value) => writeln!(out, "{n} 1.{n} get {key} = {value}"),
-        },
-        Call::Remove(key) => match map.remove(key) {
-            None => writeln!(out, "{n} 1.{n} remove {key} = none"),
-            Some(value) => writeln!(out, "{n} 1.{n} remove {key} = {value}"),
-        },
-        Call::Ceil(key) => match map.ceil(key) {
-            None => writeln!(out, "{n} 1.{n} ceil {key} = none"),
-            Some((next, value)) => writeln!(out, "{n} 1.{n} ceil {key} = {next} {value}"),
-        },
-        Call::Floor(key) => match map.floor(key) {
-            None => writeln!(out, "{n} 1.{n} floor {key} = none"),
-            Some((next, value)) => writeln!(out, "{n} 1.{n} floor {key} = {next} {value}"),
-        },
-    }
+    Ok(())
 }
