@@ -51,6 +51,7 @@ impl Plan for AvlPut {
         }
     }
 
+    #[inline(always)]
     fn step(&mut self, told: Told, change: &mut Change) -> Turn {
         self.put.step(told, change)
     }

@@ -109,15 +109,15 @@ pub struct Next {
 
 /// The plan of a remove. The walk stays at the node with the key; on its way it keeps the key of the node
 /// above the one that it has come to.
-#[derive(Drop)]
+#[derive(Clone, Copy)]
 pub struct AvlRemove {
+    phase: RemovePhase,
     walk: Walk,
     above_key: u64,
     left: u64,
     right: u64,
     value: u64,
     next: Next,
-    phase: RemovePhase,
 }
 
 /// The link to an heir, or to none.
@@ -187,6 +187,7 @@ impl Plan for AvlRemove {
         }
     }
 
+    #[inline(always)]
     fn step(&mut self, told: Told, change: &mut Change) -> Turn {
         match told {
             Told::Begin => self.set_out(),
@@ -209,7 +210,7 @@ impl AvlRemove {
     ghost use Rattle.pc_plan.specs.declared.plan.Told.TheVariants.{Begin, Version, Number as NumberTold};
 
     /// Begins its walk.
-    #[inline]
+    #[inline(always)]
     fn set_out(&mut self) -> Turn
         ensures { (p : Planned) → (self.new, asked result p) ≡ remove_told self.old self.old.phase Begin }
     {
@@ -220,7 +221,7 @@ impl AvlRemove {
     }
 
     /// Takes the version of the node that it visits, and asks for what it needs next.
-    #[inline]
+    #[inline(always)]
     fn arrive(&mut self, version: u64) -> Turn
         ensures { (p : Planned) → (self.new, asked result p) ≡ remove_told self.old self.old.phase (Version version) }
     {
@@ -243,7 +244,7 @@ impl AvlRemove {
     }
 
     /// Tells the walk something, and asks for what it does next.
-    #[inline]
+    #[inline(always)]
     fn walk_on(&mut self, told: Told) -> Turn
         ensures { (p : Planned) → (self.new, asked result p) ≡ remove_walks self.old told }
     {
@@ -262,6 +263,7 @@ impl AvlRemove {
     }
 
     /// Takes the number that it waits for, and asks for what it needs next.
+    #[inline(always)]
     fn read_on(&mut self, number: u64, change: &mut Change) -> Turn
         ensures { (self.new, asked result change.new) ≡ remove_told self.old self.old.phase (NumberTold number) }
     {
@@ -299,6 +301,7 @@ impl AvlRemove {
     }
 
     /// Lets the node with the key leave where it has at most one child, else goes to its successor.
+    #[inline(always)]
     fn choose(&mut self, change: &mut Change) -> Turn
         ensures { (self.new, asked result change.new) ≡ choosing self.old }
     {
@@ -320,6 +323,7 @@ impl AvlRemove {
     }
 
     /// Goes left from a node on the way to the successor, which is the node with no left child.
+    #[inline(always)]
     fn follow(&mut self, left: u64) -> Turn
         ensures { (p : Planned) → (self.new, asked result p) ≡ following self.old (node_at left) }
     {
@@ -337,6 +341,7 @@ impl AvlRemove {
     }
 
     /// Visits a node on the way to the successor, unless the link to it leads back.
+    #[inline(always)]
     fn go_below(&mut self, above: Above, above_key: u64, node: u32) -> Turn
         ensures { (p : Planned) → (self.new, asked result p) ≡ going_below self.old above above_key node }
     {
@@ -351,6 +356,7 @@ impl AvlRemove {
     }
 
     /// Lets the successor leave, by way of its right child, if it has one.
+    #[inline(always)]
     fn come_up(&mut self, right: u64, change: &mut Change) -> Turn
         ensures { (self.new, asked result change.new) ≡ lifting self.old (node_at right) }
     {
@@ -364,6 +370,7 @@ impl AvlRemove {
     }
 
     /// Visits an heir, unless it is one of these nodes, which no tree has.
+    #[inline(always)]
     fn visit_heir(&mut self, leaving: Leaving, node: u32, met: &[u32]) -> Turn
         ensures { (p : Planned) → (self.new, asked result p) ≡ visiting_heir self.old leaving node met.now }
     {
@@ -375,6 +382,7 @@ impl AvlRemove {
     }
 
     /// Ends by the exchange in which a node leaves and its heir, if it has one, takes its place.
+    #[inline(always)]
     fn end(&mut self, leaving: Leaving, heir: Option<Heir>, change: &mut Change) -> Turn
         ensures { (self.new, asked result change.new) ≡ remove_ends self.old (removal self.old leaving heir) }
     {
@@ -386,9 +394,10 @@ impl AvlRemove {
         Turn::Change
     }
 
-    /// The node with the key leaves.
-    fn unlink(&self, heir: Option<Heir>, change: &mut Change)
-        ensures { change.new ≡ planned_by (unlinked self.now heir) }
+    /// The node with the key leaves. It takes the plan by value, so that a run can keep the plan out of memory.
+    #[inline(never)]
+    fn unlink(self, heir: Option<Heir>, change: &mut Change)
+        ensures { change.new ≡ planned_by (unlinked self heir) }
     {
         let above = self.walk.above;
         change.restart(Reply::Value(self.value));
@@ -402,8 +411,9 @@ impl AvlRemove {
     }
 
     /// The successor leaves, and its key and its value come up to the node with the key.
-    fn lift(&self, heir: Option<Heir>, change: &mut Change)
-        ensures { change.new ≡ planned_by (lifted self.now heir) }
+    #[inline(never)]
+    fn lift(self, heir: Option<Heir>, change: &mut Change)
+        ensures { change.new ≡ planned_by (lifted self heir) }
     {
         let node = self.walk.node;
         let above = self.next.above;
@@ -423,7 +433,7 @@ impl AvlRemove {
         change.mark_removed(self.next.node, self.next.version);
     }
 
-    #[inline]
+    #[inline(always)]
     fn read(&mut self, phase: RemovePhase, node: u32, field: Field) -> Turn
         ensures { (p : Planned) → (self.new, asked result p) ≡ remove_reads self.old phase node field }
     {
@@ -431,7 +441,7 @@ impl AvlRemove {
         Turn::Read(node, field)
     }
 
-    #[inline]
+    #[inline(always)]
     fn give_up(&mut self) -> Turn
         ensures { (p : Planned) → (self.new, asked result p) ≡ remove_gives_up self.old }
     {

@@ -185,6 +185,7 @@ impl Upper {
 
 impl Repair {
     /// The repair of a key, or of the nearest key from a number up, before it begins.
+    #[inline(always)]
     pub fn new(aim: Aim, key: u64) -> Repair
         ensures { result ≡ repair_of aim key }
     {
@@ -210,6 +211,7 @@ impl Repair {
     }
 
     /// Tells the repair something, and answers what it asks next.
+    #[inline(never)]
     pub fn step(&mut self, told: Told, change: &mut Change) -> Turn
         ensures { (self.new, asked result change.new) ≡ repair_moves self.old told }
     {
@@ -222,8 +224,21 @@ impl Repair {
         }
     }
 
+    /// The same, for a run of the repair of a key: the turns on its walk and within a look are taken in the run
+    /// itself, all else by a call.
+    #[inline(always)]
+    pub fn step_to_key(&mut self, told: Told, change: &mut Change) -> Turn
+        ensures { (self.new, asked result change.new) ≡ repair_moves self.old told }
+    {
+        match self.phase {
+            RepairPhase::Walking => self.walk_on(told),
+            RepairPhase::Looking(place) => self.look_on(place, told, change),
+            _ => self.step(told, change),
+        }
+    }
+
     /// Tells the walk something, and asks for what it does next.
-    #[inline]
+    #[inline(always)]
     fn walk_on(&mut self, told: Told) -> Turn
         ensures { (p : Planned) → (self.new, asked result p)
             ≡ walked self.old (walk_step self.old.walk told).0 (walk_step self.old.walk told).1 }
@@ -241,6 +256,7 @@ impl Repair {
     }
 
     /// Looks at the node with the key.
+    #[inline(always)]
     fn arrive(&mut self, key: u64) -> Turn
         ensures { (p : Planned) → (self.new, asked result p) ≡ arrives self.old self.old.walk key }
     {
@@ -334,21 +350,29 @@ impl Repair {
     }
 
     /// Tells the look for a place something, and asks for what comes next.
+    #[inline(always)]
     fn look_on(&mut self, place: Place, told: Told, change: &mut Change) -> Turn
         ensures { (self.new, asked result change.new)
             ≡ looked self.old place (look_step self.old.look told).0 (look_step self.old.look told).1 }
     {
         match self.look.step(told) {
             LookStep::Read(field) => Turn::Read(self.look.seen.node, field),
-            LookStep::Done => {
-                self.put(place, self.look.seen);
-                self.go_on(place, change)
-            }
+            LookStep::Done => self.keep(place, change),
             LookStep::Astray => self.answer(Reply::None),
         }
     }
 
+    /// Puts the node that was looked at to its place, and goes on.
+    #[inline(never)]
+    fn keep(&mut self, place: Place, change: &mut Change) -> Turn
+        ensures { (self.new, asked result change.new) ≡ after_look place (placed self.old place self.old.look.seen) }
+    {
+        self.put(place, self.look.seen);
+        self.go_on(place, change)
+    }
+
     /// Goes on once the node for a place stands there.
+    #[inline(always)]
     fn go_on(&mut self, place: Place, change: &mut Change) -> Turn
         ensures { (self.new, asked result change.new) ≡ after_look place self.old }
     {
@@ -363,6 +387,7 @@ impl Repair {
         }
     }
 
+    #[inline]
     fn seek_left(&mut self, change: &mut Change) -> Turn
         ensures { (self.new, asked result change.new) ≡ seeks_left self.old }
     {
@@ -373,6 +398,7 @@ impl Repair {
         }
     }
 
+    #[inline]
     fn seek_right(&mut self, change: &mut Change) -> Turn
         ensures { (self.new, asked result change.new) ≡ seeks_right self.old }
     {
@@ -472,6 +498,7 @@ impl Repair {
     }
 
     /// Brings the node that a link names to its place, or begins to look at it.
+    #[inline]
     fn seek(&mut self, place: Place, link: u64) -> Sought
         ensures { (self.new, result) ≡ sought self.old place link }
     {
@@ -491,6 +518,7 @@ impl Repair {
     }
 
     /// What stands at a place.
+    #[inline]
     fn at(&self, place: Place) -> &Looked
         ensures { result.now ≡ at_place self.now place }
     {
@@ -505,6 +533,7 @@ impl Repair {
         }
     }
 
+    #[inline]
     fn put(&mut self, place: Place, node: Looked)
         ensures { self.new ≡ placed self.old place node }
     {
@@ -520,6 +549,7 @@ impl Repair {
     }
 
     /// The nodes that it has met and still knows of.
+    #[inline]
     fn met(&self) -> [u32; 9]
         ensures { result ≡ met self.now }
     {

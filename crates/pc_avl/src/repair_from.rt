@@ -45,6 +45,7 @@ impl Plan for AvlRepairFrom {
 
     ghost laws = { repair_laws Nearest };
 
+    #[inline(always)]
     fn begin(call: u64) -> AvlRepairFrom {
         AvlRepairFrom {
             repair: Repair::new(Aim::Nearest, call),

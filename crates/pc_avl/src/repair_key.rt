@@ -45,6 +45,7 @@ impl Plan for AvlRepair {
 
     ghost laws = { repair_laws Exact };
 
+    #[inline(always)]
     fn begin(call: u64) -> AvlRepair {
         AvlRepair {
             repair: Repair::new(Aim::Exact, call),
@@ -53,7 +54,7 @@ impl Plan for AvlRepair {
 
     #[inline(always)]
     fn step(&mut self, told: Told, change: &mut Change) -> Turn {
-        self.repair.step(told, change)
+        self.repair.step_to_key(told, change)
     }
 
     fn entry(_call: u64) -> Option<Call> {

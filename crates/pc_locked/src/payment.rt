@@ -17,6 +17,7 @@ use pc_plain::{PlainCells, run_owed};
 use pc_plan::Plan;
 
 /// Runs a repair of a balanced tree. It is never refused.
+#[inline(never)]
 fn repair_by<P: Plan<Call = u64>>(cells: &mut PlainCells, key: u64, owed: &mut Owed) -> Reply
     requires repair { (highest : _) × IsRepair P.start P.moves P.can_call P.terms P.form highest }
     requires tree { HoldsPairs (tree_form balanced) cells.old }
