@@ -7,10 +7,13 @@ use Rattle.pc_model.specs.declared.call.Reply.TheVariants.{New}
 use Rattle.pc_model.specs.Debts.{Debts, all_charged}
 use Rattle.pc_model.specs.Forms.{Form}
 use Rattle.pc_model.specs.Map.{Pairs, value_at, reply_of, pairs_after}
+use Rattle.pc_model.specs.Replay.{fold_of}
 use Rattle.pc_plan.specs.Terms.{Terms, IsReply}
 use Rattle.pc_plain.specs.PlainCells.{PlainWords, cells_of}
 use Rattle.pc_avl.specs.declared.tree_kind.TreeKind.{TreeKind}
-use Rattle.pc_locked.specs.States.{form_of}
+use Rattle.pc_locked.specs.declared.fault.LockedFault.{LockedFault}
+use Rattle.pc_locked.specs.declared.fault.LockedFault.TheVariants.{NoSlot, Room}
+use Rattle.pc_locked.specs.States.{MapState, HasRoom, form_of}
 
 -- the call puts a value at a key that isn't there
 abbrev pub IsNewPut : Call → Pairs → Type 0
@@ -23,6 +26,13 @@ IsNewPut (Floor k) ps = ⊥
 -- the call wants a slot, and there is none: its key is new, and there are as many pairs as slots
 abbrev pub WantsSlotInVain : Call → Pairs → ℕ → Type 0
 WantsSlotInVain call ps slots = IsNewPut call ps × (length ps ≡ slots)
+
+-- Why a call is refused on a map, and the number that is told: as many entries are held as there is room for; or there
+-- is room, and it wants a slot in vain.
+abbrev pub IsRefusal : Call → MapState → LockedFault → Type 0
+IsRefusal call s (Room calls) = (length s.entries ≡ s.calls) × (calls ≡ s.calls)
+IsRefusal call s (NoSlot live) =
+    HasRoom s × WantsSlotInVain call (fold_of s.entries) s.cells.slots × (live ≡ s.cells.slots)
 
 -- keys were charged, and nothing else became of the debts
 abbrev pub AreCharged : Debts → Debts → Type 0

@@ -5,12 +5,13 @@ ghost use Rattle.std.specs.Int.{IsInRange};
 ghost use Rattle.pc_model.specs.Map.{reply_of};
 ghost use Rattle.pc_model.specs.Replay.{fold_of};
 ghost use Rattle.pc_text.specs.ScriptFacts.{IsCallInRange};
-ghost use Rattle.pc_locked.specs.Answers.{AreCharged, WantsSlotInVain};
+ghost use Rattle.pc_locked.specs.Answers.{AreCharged, IsRefusal, WantsSlotInVain};
 ghost use Rattle.pc_avl.specs.declared.tree_kind.TreeKind.TheVariants.{Avl};
 ghost use Rattle.pc_locked.specs.Repairs.{IsInFullBalance};
 ghost use Rattle.pc_locked.specs.States.{AreCounts, HasRoom, IsOpened, IsRightState, IsSameMap, next_entry};
 
 use crate::answer::answer;
+use crate::fault::LockedFault;
 use pc_avl::TreeKind;
 use pc_model::{Call, Entry, Memory, Owed, Reply};
 use pc_plain::{NoPlainSlot, PlainCells};
@@ -135,6 +136,30 @@ pub fn apply(state: &mut LockedState, pass: u32, call: Call) -> Result<Reply, No
         stamp,
     });
     Ok(reply)
+}
+
+/// Makes a call of the map for a pass, as [`apply`], where there is room for its entry. A refusal changes nothing. It
+/// takes no memory.
+pub fn try_apply(state: &mut LockedState, pass: u32, call: Call) -> Result<Reply, LockedFault>
+    requires pass { IsInRange 1 32 pass }
+    requires call { IsCallInRange call }
+    ensures same { IsSameMap state.old state.new }
+    ensures reply { IfOk result (λ reply. reply ≡ reply_of call (fold_of state.old.entries)) }
+    ensures entry { IfOk result (λ reply. state.new.entries
+        ≡ state.old.entries ++ next_entry state.old.entries pass call reply ∷ []) }
+    ensures charged { OnOk result (AreCharged state.old.owed state.new.owed) }
+
+    // Exactly where as many entries are held as there is room for, or the key is new and every slot has a pair.
+    ensures roomy { OnOk result (HasRoom state.old) }
+    ensures granted { OnOk result
+        (WantsSlotInVain call (fold_of state.old.entries) state.old.cells.slots → ⊥) }
+    ensures refused { IfErr result (IsRefusal call state.old) }
+    ensures stays { OnErr result (state.new ≡ state.old) }
+{
+    if state.room() == 0 {
+        return Err(LockedFault::Room { calls: state.calls });
+    }
+    Ok(apply(state, pass, call)?)
 }
 
 /// Counts one entry more of a pass, and answers how many it has then.
