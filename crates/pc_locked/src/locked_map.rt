@@ -7,7 +7,7 @@ ghost use Rattle.pc_locked.specs.Kinds.{kind_numbered};
 ghost use Rattle.pc_locked.specs.States.{IsRightState};
 
 use crate::fault::LockedFault;
-use crate::payment::pay;
+use crate::payment::settle;
 use crate::state::{LockedState, open_state, try_apply};
 use pc_avl::TreeKind;
 use pc_model::{Call, Memory, Reply};
@@ -109,17 +109,12 @@ fn call_under<R: Wait, const KIND: u8>(
     requires pass { IsInRange 1 32 pass }
     requires call { IsCallInRange call }
 {
-    lock.lock(rt).try_apply(pass, call)
+    try_apply(&mut lock.lock(rt).state, pass, call)
 }
 
 /// Repairs until nothing is owed, under the lock.
 fn settle_under<R: Wait, const KIND: u8>(rt: &R, lock: &Mutex<Kept<KIND>>) {
-    let mut kept = lock.lock(rt);
-    for _ in rt.forever() {
-        if !kept.pay() {
-            return;
-        }
-    }
+    settle(rt, &mut lock.lock(rt).state);
 }
 
 fn state_of<const KIND: u8>(kept: Kept<KIND>) -> LockedState
@@ -129,17 +124,4 @@ fn state_of<const KIND: u8>(kept: Kept<KIND>) -> LockedState
     let Kept { state } = kept;
     let _ = state.history();
     state
-}
-
-impl<const KIND: u8> Kept<KIND> {
-    fn try_apply(&mut self, pass: u32, call: Call) -> Result<Reply, LockedFault>
-        requires pass { IsInRange 1 32 pass }
-        requires call { IsCallInRange call }
-    {
-        try_apply(&mut self.state, pass, call)
-    }
-
-    fn pay(&mut self) -> bool {
-        pay(&mut self.state)
-    }
 }

@@ -1,5 +1,5 @@
 //! Paying what is owed: one repair at a time.
-ghost use Rattle.std.specs.Prelude.{◌≡◌, is_some, IfSome};
+ghost use Rattle.std.specs.Prelude.{◌≡◌, is_some, IfSome, IsNone};
 ghost use Rattle.std.specs.Bool.{OnFalse};
 ghost use Rattle.pc_model.specs.Debts.{first_owed};
 ghost use Rattle.pc_model.specs.Trees.{balanced};
@@ -15,6 +15,7 @@ use pc_avl::{AvlRepair, AvlRepairFrom, repairs_end_by_cases, slots_are_for_new_k
 use pc_model::{Owed, Owing, Reply};
 use pc_plain::{PlainCells, run_owed};
 use pc_plan::Plan;
+use std::sync::Wait;
 
 /// Runs a repair of a balanced tree. It is never refused.
 #[inline(never)]
@@ -55,6 +56,20 @@ pub fn pay(state: &mut LockedState) -> bool
     repairs_end_by_cases();
     slots_are_for_new_keys();
     pay_by::<AvlRepair, AvlRepairFrom>(state)
+}
+
+/// Repairs until nothing is owed. Whether that ends isn't promised.
+pub fn settle<R: Wait>(rt: &R, state: &mut LockedState)
+    ensures free { IsNone (first_owed state.new.owed.keys state.new.owed.from) }
+    ensures entries { state.new.entries ≡ state.old.entries }
+    ensures same { IsSameMap state.old state.new }
+    ensures balanced { state.new.kind ≡ Avl → IsInFullBalance state.new.cells }
+{
+    for _ in rt.forever() {
+        if !pay(state) {
+            return;
+        }
+    }
 }
 
 /// Repairs what is owed first, by a plan for a key and a plan for what there is from a number on, and answers
