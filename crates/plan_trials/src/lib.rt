@@ -1,5 +1,5 @@
 //! Trials of the plans: what they ask for as they are told a small tree by hand, the exchanges that they write, whole
-//! runs on plain cells and those of the map with its history, compared with what was worked out by hand. It stands
+//! runs on plain cells, and those of the map with its history, also where threads share it, compared with what was worked out by hand. It stands
 //! above the crates that it tries, so that these are proved without tests.
 #![tactic(auto)]
 
@@ -9,6 +9,8 @@ mod avl_steps;
 mod bst_steps;
 #[cfg(test)]
 mod changes;
+#[cfg(test)]
+mod locked_maps;
 #[cfg(test)]
 mod locked_runs;
 #[cfg(test)]

@@ -9,7 +9,7 @@ use std::alloc::Global;
 
 /// What is called, with small keys and values.
 #[derive(Clone, Copy)]
-enum Called {
+pub enum Called {
     Put(u32, u32),
     Get(u32),
     Remove(u32),
@@ -22,7 +22,7 @@ type Answer = Result<Reply, NoPlainSlot>;
 /// Whose call it is, what is called, and what is to be answered.
 type Row = (u32, Called, Answer);
 
-fn call_of(called: Called) -> Call
+pub fn call_of(called: Called) -> Call
     ensures { IsCallInRange result }
 {
     match called {
