@@ -1,5 +1,5 @@
-//! The map for callers in several threads: the whole map with its history stands under one lock, so that one call at a
-//! time runs on it. What is under the lock is a right state of the map's kind of tree each time that the lock is taken.
+//! The map for callers in several threads: the whole map with its history stands under one lock, so that one call at
+//! a time runs on it. Each time that the lock is taken, what is under it is a right state of the map's kind of tree.
 ghost use Rattle.std.specs.Prelude.{◌≡◌, ◌≤◌, IfOk};
 ghost use Rattle.std.specs.Int.{IsInRange};
 ghost use Rattle.pc_text.specs.ScriptFacts.{IsCallInRange};
@@ -15,17 +15,20 @@ use std::alloc::Global;
 use std::marker::Model;
 use std::sync::{Mutex, Wait};
 
+/// The number of the plain kind of tree.
 const PLAIN: u8 = TreeKind::Bst as u8;
 
+/// The number of the balanced kind of tree.
 const BALANCED: u8 = TreeKind::Avl as u8;
 
-/// The map under the lock. Its kind of tree is numbered, since a type can't take a kind itself.
+/// The map under the lock, with its kind of tree as a number, since a type can't take a kind itself.
 #[derive(Drop)]
 struct Kept<const KIND: u8> {
     state: LockedState,
     ghost of_kind: { state.kind ≡ kind_numbered KIND },
 }
 
+/// The lock, with the kind of tree that stands under it.
 #[derive(Drop)]
 enum Locked {
     Plain(Mutex<Kept<PLAIN>>),
@@ -117,6 +120,7 @@ fn settle_under<R: Wait, const KIND: u8>(rt: &R, lock: &Mutex<Kept<KIND>>) {
     settle(rt, &mut lock.lock(rt).state);
 }
 
+/// Takes the map out of what was under the lock.
 fn state_of<const KIND: u8>(kept: Kept<KIND>) -> LockedState
     ensures kind { result.kind ≡ kind_numbered KIND }
     ensures right { IsRightState result }

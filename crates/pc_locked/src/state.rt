@@ -150,7 +150,7 @@ pub fn try_apply(state: &mut LockedState, pass: u32, call: Call) -> Result<Reply
     ensures charged { OnOk result (AreCharged state.old.owed state.new.owed) }
 
     // Exactly where as many entries are held as there is room for, or the key is new and every slot has a pair.
-    ensures roomy { OnOk result (HasRoom state.old) }
+    ensures room { OnOk result (HasRoom state.old) }
     ensures granted { OnOk result
         (WantsSlotInVain call (fold_of state.old.entries) state.old.cells.slots → ⊥) }
     ensures refused { IfErr result (IsRefusal call state.old) }
