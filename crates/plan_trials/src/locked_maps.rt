@@ -141,9 +141,10 @@ fn has_calls_of(state: &LockedState, pass: u32, replies: &Option<Vec<Reply>>) ->
     entered.eq(made)
 }
 
-/// Whether three passes, each in a thread of its own, leave one right history of all their calls.
+/// Whether three passes, each in a thread of its own, leave one right history of all their calls and no other, where
+/// there is room for more.
 fn is_one_history<R: Threads + Wait + Sync>(rt: &R, alloc: Global) -> Result<bool, Memory> {
-    let map = LockedMap::new(alloc, TreeKind::Avl, 4, 3 * TURNS)?;
+    let map = LockedMap::new(alloc, TreeKind::Avl, 4, 4 * TURNS)?;
     let shared = &map;
     let (first, (second, third)) = thread::join(
         rt,
