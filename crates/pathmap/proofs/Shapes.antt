@@ -10,7 +10,7 @@ use Rattle.pc_avl.specs.declared.tree_kind.TreeKind.{TreeKind}
 use Rattle.pc_avl.specs.declared.tree_kind.TreeKind.TheVariants.{Bst, Avl}
 use Rattle.pc_avl.specs.TreeKinds.{kind_of}
 use Rattle.pc_locked.specs.States.{MapState, IsRightState}
-use Rattle.pathmap.specs.OneClient.{IsShapeOfPairs, IsListedIfAsked, IsSettled}
+use Rattle.pathmap.specs.Runs.{IsShapeOfPairs, IsListedIfAsked, IsSettled}
 
 module _ (s : MapState) (settled : IsSettled s) (lines : List ShapeLine) (shape : IsShapeOf s.cells lines) where
   shape_of_kind : (kind : TreeKind) → s.kind ≡ kind → (ps : Pairs)

@@ -1,4 +1,7 @@
-pub mod OneClient
+pub mod Alone
 pub mod Reading
+pub mod Runs
 pub mod Serving
+pub mod Shares
+pub mod Together
 pub mod Words

@@ -10,8 +10,9 @@ use Rattle.pc_edge.specs.declared.traits.Failed.{Failed}
 use Rattle.pc_edge.specs.Sending.{AppendsFront, Writes}
 use Rattle.pc_text.specs.declared.fault.Fault.{Fault}
 use Rattle.pc_text.specs.declared.fault.Fault.TheVariants.{Usage, Script, Read, TooLargeInput, TooManySlots, Slots}
-use Rattle.pc_text.specs.declared.fault.Fault.TheVariants.{Numbers, Memory, NotBuilt}
+use Rattle.pc_text.specs.declared.fault.Fault.TheVariants.{Numbers, Memory}
 use Rattle.pc_text.specs.declared.kind.ScriptKind.{ScriptKind}
+use Rattle.pc_text.specs.declared.kind.ScriptKind.TheVariants.{BadByte}
 use Rattle.pc_text.specs.declared.limits.TheConstants.{MOST_BYTES}
 use Rattle.pc_text.specs.Fault.{status_of}
 use Rattle.pc_text.specs.FaultLine.{fault_line}
@@ -20,7 +21,7 @@ use Rattle.pc_text.specs.Script.{script_of}
 use Rattle.pc_text.specs.ScriptValue.{ScriptValue}
 use Rattle.pc_text.specs.declared.shape.ShapeLine.{ShapeLine}
 use Rattle.pathmap.specs.declared.words.Options.{Options}
-use Rattle.pathmap.specs.OneClient.{IsOneHistory, IsShapeIfAsked}
+use Rattle.pathmap.specs.Runs.{IsRunOf, IsShapeIfAsked}
 
 -- the bytes are no longer than an input may be, and spell this script
 abbrev pub SpellsScript : List ℕ → ScriptValue → Type 0
@@ -34,16 +35,16 @@ IsTooLong bytes = MOST_BYTES < length bytes
 abbrev pub HasBadLine : List ℕ → ℕ → ScriptKind → Type 0
 HasBadLine bytes line kind = (length bytes ≤ MOST_BYTES) × (script_of bytes ≡ Err (line, kind))
 
--- they spell a script of more than one client
-abbrev pub SpellsMany : List ℕ → Type 0
-SpellsMany bytes = (script : ScriptValue) × SpellsScript bytes script × (1 < script.clients)
-
--- they spell no script, or one of more than one client
+-- they are no longer than that, and spell no script
 abbrev pub IsRefused : List ℕ → Type 0
-IsRefused bytes = ((length bytes ≤ MOST_BYTES) × IsErr (script_of bytes)) ⊎ SpellsMany bytes
+IsRefused bytes = (length bytes ≤ MOST_BYTES) × IsErr (script_of bytes)
 
--- the words are taken, and the input was read to its end and spells a script, of which this is one history with
--- the pairs left, and with the shape, where it was asked for
+-- the status of a run whose script has a bad line, whichever line and whatever is wrong with it
+abbrev pub bad_script : ℕ
+bad_script = status_of (Script 1 BadByte)
+
+-- the words are taken, and the input was read to its end and spells a script, of whose run these are the history and
+-- the pairs left, and the shape, where it was asked for
 pub record HasRunAll (asked : Option Options) (input rest : Option (List ℕ)) (history : List Entry) (pairs : Pairs)
     (shape : Option (List ShapeLine)) : Type 0 where
   pub options : Options
@@ -51,12 +52,12 @@ pub record HasRunAll (asked : Option Options) (input rest : Option (List ℕ)) (
   pub script : ScriptValue
   pub spelled : IfSome input (λ bytes. SpellsScript bytes script)
   pub at_end : IsAtEnd rest
-  pub one : IsOneHistory script.calls history pairs
+  pub ran : IsRunOf script.calls history pairs
   pub shaped : IsShapeIfAsked (kind_of options.tree) options.shape pairs shape
 
--- what the sink holds is what it held before and one history of all clients, with the pairs that are left and the
--- shape that was asked for
-pub record PrintsOneHistory (asked : Option Options) (input rest held held' : Option (List ℕ)) : Type 0 where
+-- what the sink holds is what it held before and the history of a run of the script, with the pairs that are left and
+-- the shape that was asked for
+pub record PrintsRun (asked : Option Options) (input rest held held' : Option (List ℕ)) : Type 0 where
   pub history : List Entry
   pub pairs : Pairs
   pub shape : Option (List ShapeLine)
@@ -71,12 +72,11 @@ pub record PrintsFront (asked : Option Options) (input rest held held' : Option 
   pub run : HasRunAll asked input rest history pairs shape
   pub front : AppendsFront held held' (printed_run history pairs shape)
 
--- why a run ends in a fault: the words aren't taken; or they are, and the input is too long, it has a bad line or
--- more than one client, or the source failed; want of memory needs no cause, and the other faults don't come
+-- why a run ends in a fault: the words aren't taken; or they are, and the input is too long or has a bad line, or the
+-- source failed; want of memory needs no cause, and the other faults don't come
 abbrev pub IsCauseOf : Option Options → Option (List ℕ) → ℕ → ℕ → Fault → Type 0
 IsCauseOf asked input faults faults' Usage = IsNone asked
 IsCauseOf asked input faults faults' Memory = ⊤
-IsCauseOf asked input faults faults' NotBuilt = IsSome asked × IfSome input SpellsMany
 IsCauseOf asked input faults faults' Read = IsSome asked × HasRisen faults faults'
 IsCauseOf asked input faults faults' (Script line kind) =
     IsSome asked × IfSome input (λ bytes. HasBadLine bytes line kind)
@@ -105,18 +105,17 @@ EndsUnlessMemory wanted status = (status ≡ wanted) ⊎ (status ≡ status_of M
 abbrev pub EndsUnlessStopped : ℕ → ℕ → Type 0
 EndsUnlessStopped wanted status = (status ≡ wanted) ⊎ ((status ≡ status_of Read) ⊎ (status ≡ status_of Memory))
 
--- the bytes spell a script, of which this is one history with the pairs left, and with the shape, where it is asked
+-- the bytes spell a script, of whose run these are the history and the pairs left, and the shape, where it is asked
 -- for
 pub record RunsBytes (options : Options) (bytes : List ℕ) (history : List Entry) (pairs : Pairs)
     (shape : Option (List ShapeLine)) : Type 0 where
   pub script : ScriptValue
   pub spelled : script_of bytes ≡ Ok script
-  pub one : IsOneHistory script.calls history pairs
+  pub ran : IsRunOf script.calls history pairs
   pub shaped : IsShapeIfAsked (kind_of options.tree) options.shape pairs shape
 
--- why bytes are not run: they have a bad line, or more than one client, or memory was wanting
+-- why bytes are not run: they have a bad line, or memory was wanting
 abbrev pub IsBytesFault : List ℕ → Fault → Type 0
 IsBytesFault bytes (Script line kind) = script_of bytes ≡ Err (line, kind)
-IsBytesFault bytes NotBuilt = (script : ScriptValue) × (script_of bytes ≡ Ok script) × (1 < script.clients)
 IsBytesFault bytes Memory = Unit {0}
 IsBytesFault bytes _ = ⊥

@@ -6,9 +6,12 @@ ghost use Rattle.std.specs.Prelude.{◌≡◌, ◌≢◌};
 ghost use Rattle.pathmap.specs.Serving.{WritesFault};
 ghost use Rattle.pc_text.specs.Fault.{status_of};
 
-mod one_client;
+mod alone;
 mod reading;
+mod run;
 mod serve;
+mod shares;
+mod together;
 mod words;
 
 use pc_edge::{OpenGate, Sink, StdSink, StdSource};
@@ -61,6 +64,8 @@ fn words_of(alloc: Global, rt: &HostRuntime) -> io::Result<Vec<String>> {
     Ok(words)
 }
 
+#[cfg(test)]
+mod clients_tests;
 #[cfg(test)]
 mod tests;
 #[cfg(test)]

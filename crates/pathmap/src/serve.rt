@@ -3,22 +3,19 @@ ghost use Rattle.std.specs.Prelude.{◌≡◌, ◌≢◌, ◌+◌, ◌≤◌, fa
 ghost use Rattle.std.specs.Prelude.{IfSome, IsSome, IsNone};
 ghost use Rattle.pathmap.specs.Words.{options_of};
 ghost use Rattle.pathmap.specs.Reading.{TakesAtMost};
-ghost use Rattle.pathmap.specs.OneClient.{IsOneHistory, IsShapeIfAsked, lines_of};
-ghost use Rattle.pathmap.specs.Serving.{PrintsOneHistory, PrintsFront, HasRunAll, RunsBytes};
+ghost use Rattle.pathmap.specs.Runs.{lines_of};
+ghost use Rattle.pathmap.specs.Serving.{PrintsRun, PrintsFront, HasRunAll, RunsBytes, bad_script};
 ghost use Rattle.pathmap.specs.Serving.{EndsInFault, IsCauseOf, IsBytesFault, WritesFault};
 ghost use Rattle.pathmap.specs.Serving.{IsTooLong, IsRefused, EndsUnlessMemory, EndsUnlessStopped};
 ghost use Rattle.pc_edge.specs.Faults.{HasRisen};
-ghost use Rattle.pc_avl.specs.TreeKinds.{kind_of};
 ghost use Rattle.pc_text.specs.Fault.{status_of};
 ghost use Rattle.pc_text.specs.Printed.{listed};
-ghost use Rattle.pc_text.specs.ScriptFacts.{AreFew, AreInRange};
 
-use crate::one_client::{Run, run_alone};
 use crate::reading::read_all;
+use crate::run::{Run, run_script};
 use crate::words::{Options, options_of};
 use pc_edge::{Failed, Gate, Sink, Source};
-use pc_model::{Call, Memory};
-use pc_text::{Extras, Fault, MOST_BYTES, Script, print_fault, print_run, read_script};
+use pc_text::{Extras, Fault, MOST_BYTES, print_fault, print_run, read_script};
 use std::alloc::Global;
 use std::sync::Wait;
 use std::thread::Threads;
@@ -36,11 +33,13 @@ pub struct Outcome {
     pub status: u8,
 }
 
-/// Reads a script from the source, runs it, and prints its history, the pairs that are left and, under
-/// `--shape`, the shape of the tree.
+/// Reads a script from the source, runs it with a worker for each client, and prints the history of all clients, the
+/// pairs that are left and, under `--shape`, the shape of the tree.
+///
+/// The gate is called before and after each command, by the worker that runs it.
 ///
 /// Status 0: the run was printed whole. 2: the command doesn't take the words. 3: the input spells no
-/// script, or one of more than one client. 4: the source failed. 5: the sink failed while the run was
+/// script. 4: the source failed. 5: the sink failed while the run was
 /// printed. 6: the input has more than 4,194,304 bytes. 9: memory was wanting, before the first byte. At
 /// each status but 0 and 5 the line of the fault is written.
 pub fn serve<R: Threads + Wait + Sync, S: Source, K: Sink, G: Gate + Sync>(
@@ -49,11 +48,11 @@ pub fn serve<R: Threads + Wait + Sync, S: Source, K: Sink, G: Gate + Sync>(
     words: &[String],
     source: &mut S,
     sink: &mut K,
-    _gate: &G,
+    gate: &G,
 ) -> Outcome
-    // Printed is one history of all clients, with the pairs that are left and the shape that was asked for.
+    // Printed is the history of a run of the script, with the pairs that are left and the shape that was asked for.
     ensures ok { result.status ≡ PRINTED →
-        PrintsOneHistory (options_of words.now)
+        PrintsRun (options_of words.now)
         (S.left source.old) (S.left source.new) (K.held sink.old) (K.held sink.new) }
 
     // The sink failed while the run was printed.
@@ -73,7 +72,7 @@ pub fn serve<R: Threads + Wait + Sync, S: Source, K: Sink, G: Gate + Sync>(
         EndsUnlessStopped (status_of Fault.TooLargeInput) result.status) }
     ensures refused { IsSome (options_of words.now) →
         IfSome (S.left source.old) (λ bytes. IsRefused bytes →
-        EndsUnlessStopped (status_of Fault.NotBuilt) result.status) }
+        EndsUnlessStopped bad_script result.status) }
 
     // Where the words aren't taken nothing is read, and else at most one byte past the limit.
     ensures unread { IsNone (options_of words.now) → source.new ≡ source.old }
@@ -81,7 +80,7 @@ pub fn serve<R: Threads + Wait + Sync, S: Source, K: Sink, G: Gate + Sync>(
     ensures source_never_falls { S.faults source.old ≤ S.faults source.new }
     ensures sink_never_falls { K.faults sink.old ≤ K.faults sink.new }
 {
-    let run = match run_input(rt, alloc, words, source) {
+    let run = match run_input(rt, alloc, words, source, gate) {
         Ok(run) => run,
         Err(fault) => return refuse(sink, &fault),
     };
@@ -103,11 +102,12 @@ fn extras_of(run: &Run) -> Extras<'_>
 }
 
 // Reads the words and the script, and runs it. Nothing is printed.
-fn run_input<R: Wait, S: Source>(
+fn run_input<R: Threads + Wait + Sync, S: Source, G: Gate + Sync>(
     rt: &R,
     alloc: Global,
     words: &[String],
     source: &mut S,
+    gate: &G,
 ) -> Result<Run, Fault>
     ensures ok { IfOk result (λ run. HasRunAll (options_of words.now)
         (S.left source.old) (S.left source.new) run.map.entries run.pairs.items (lines_of run.shape)) }
@@ -120,12 +120,18 @@ fn run_input<R: Wait, S: Source>(
 {
     let options = options_of(alloc, words)?;
     let bytes = read_all(alloc, source)?;
-    let run = run_bytes(rt, alloc, options, &bytes)?;
+    let run = run_bytes(rt, alloc, options, &bytes, gate)?;
     Ok(run)
 }
 
 // Runs the script that bytes spell.
-fn run_bytes<R: Wait>(rt: &R, alloc: Global, options: Options, bytes: &[u8]) -> Result<Run, Fault>
+fn run_bytes<R: Threads + Wait + Sync, G: Gate + Sync>(
+    rt: &R,
+    alloc: Global,
+    options: Options,
+    bytes: &[u8],
+    gate: &G,
+) -> Result<Run, Fault>
     requires { length bytes.now ≤ MOST_BYTES }
     ensures ok { IfOk result
         (λ run. RunsBytes options bytes.now run.map.entries run.pairs.items (lines_of run.shape)) }
@@ -133,28 +139,8 @@ fn run_bytes<R: Wait>(rt: &R, alloc: Global, options: Options, bytes: &[u8]) -> 
     ensures cause { IfErr result (IsBytesFault bytes.now) }
 {
     let script = read_script(alloc, bytes)?;
-    if script.clients > 1 {
-        return Err(Fault::NotBuilt);
-    }
-    let run = run_script(rt, alloc, options, &script)?;
+    let run = run_script(rt, alloc, options, &script, gate)?;
     Ok(run)
-}
-
-// Runs a script of one client.
-fn run_script<R: Wait>(
-    rt: &R,
-    alloc: Global,
-    options: Options,
-    script: &Script,
-) -> Result<Run, Memory>
-    requires one_list { length script.now.calls ≡ 1 }
-    requires few { AreFew script.now.calls }
-    requires in_range { AreInRange script.now.calls }
-    ensures one { IfOk result (λ run. IsOneHistory script.now.calls run.map.entries run.pairs.items) }
-    ensures shape { IfOk result (λ run. IsShapeIfAsked (kind_of options.tree) options.shape run.pairs.items (lines_of run.shape)) }
-{
-    let calls: &[Call] = &script.calls[0];
-    run_alone(rt, alloc, options, calls)
 }
 
 /// Writes a fault's line, and ends with its status whether or not it was written.

@@ -2,28 +2,11 @@
 ghost use Rattle.std.specs.Prelude.{◌≤◌};
 
 use super::*;
-use pc_edge::{Gate, MemorySink, MemorySource};
+use pc_edge::{MemorySink, MemorySource, OpenGate};
 use pc_text::MOST_BYTES;
 use std::process::Abort;
 use std::sync::Wait;
-use std::sync::atomic::{AtomicU64, Ordering};
 use std::thread::Threads;
-
-/// A gate that counts its calls.
-#[derive(Drop)]
-struct CountingGate {
-    calls: AtomicU64,
-}
-
-impl Gate for CountingGate {
-    fn before(&self, _client: u32, _number: u32) {
-        self.calls.fetch_add(1, Ordering::SeqCst);
-    }
-
-    fn after(&self, _client: u32, _number: u32) {
-        self.calls.fetch_add(1, Ordering::SeqCst);
-    }
-}
 
 // A source whose reads give at most so many bytes, and fail at the listed numbers.
 pub(crate) fn source_of(bytes: Vec<u8>, piece: usize, fails: Vec<u64>) -> MemorySource
@@ -39,7 +22,7 @@ pub(crate) fn source_of(bytes: Vec<u8>, piece: usize, fails: Vec<u64>) -> Memory
     }
 }
 
-fn strings_of(alloc: Global, words: &[&str]) -> Result<Vec<String>, AllocError> {
+pub(crate) fn strings_of(alloc: Global, words: &[&str]) -> Result<Vec<String>, AllocError> {
     let mut strings = Vec::new(alloc);
     for word in words {
         strings.push(String::from_str(alloc, word)?)?;
@@ -47,21 +30,17 @@ fn strings_of(alloc: Global, words: &[&str]) -> Result<Vec<String>, AllocError> 
     Ok(strings)
 }
 
-// Serves a source: with which status, after how many reads, and after how many calls of the gate.
+// Serves a source: with which status, and after how many reads.
 fn run<R: Threads + Wait + Sync>(
     rt: &R,
     alloc: Global,
     words: &[&str],
     source: &mut MemorySource,
     sink: &mut MemorySink,
-) -> Result<(u8, u64, u64), AllocError> {
+) -> Result<(u8, u64), AllocError> {
     let words = strings_of(alloc, words)?;
-    let gate = CountingGate {
-        calls: AtomicU64::new(0),
-    };
-    let outcome = serve(rt, alloc, &words, source, sink, &gate);
-    let calls = gate.calls.load(Ordering::SeqCst);
-    Ok((outcome.status, source.calls, calls))
+    let outcome = serve(rt, alloc, &words, source, sink, &OpenGate);
+    Ok((outcome.status, source.calls))
 }
 
 /// How a run ends: its status, how many reads there were, and what is written, all of it or its first part.
@@ -76,7 +55,7 @@ pub(crate) struct Ending<'a> {
 /// A sink's room, and how many bytes a write takes.
 pub(crate) type Room = (usize, usize);
 
-// Whether a run ends so, without a call of the gate.
+// Whether a run ends so.
 pub(crate) fn ends_so<R: Threads + Wait + Sync>(
     rt: &R,
     alloc: Global,
@@ -88,7 +67,7 @@ pub(crate) fn ends_so<R: Threads + Wait + Sync>(
     match MemorySink::with_room(alloc, room.0, room.1.max(1)) {
         Ok(mut sink) => {
             let ended = run(rt, alloc, words, &mut source, &mut sink);
-            ended == Ok((ending.status, ending.reads, 0)) && is_text(&sink.held, ending)
+            ended == Ok((ending.status, ending.reads)) && is_text(&sink.held, ending)
         }
         Err(_) => false,
     }
@@ -183,8 +162,13 @@ const INPUTS: &[(&str, u8, &str)] = &[
     ("foo\0\n", 3, "fault line 1 bad byte\n"),
     ("client 0\n", 3, "fault line 1 bad number\n"),
     ("client 33\n", 3, "fault line 1 too many clients\n"),
-    // Scripts of more than one client are not run yet; a bad line comes first.
-    ("client 2\nget 1\n", 3, "fault not built\n"),
+    // Where one client alone has commands there is one order.
+    ("client 2\nget 1\n", 0, "1 2.1 get 1 = none\nleft 0\nend\n"),
+    (
+        "client 2\nput 1 2\nclient 1\n# none\nclient 2\nget 1\n",
+        0,
+        "1 2.1 put 1 2 = new\n2 2.2 get 1 = 2\nleft 1\n1 2\nend\n",
+    ),
     ("client 2\nget 1\nget\n", 3, "fault line 3 word count\n"),
 ];
 
@@ -225,40 +209,111 @@ fn first_other_input<R: Threads + Wait + Sync>(
     None
 }
 
-/// The words, the read that fails, the sink's room, the status, the reads that there were, and the output.
-type Faulty = (&'static [&'static str], u64, usize, u8, u64, &'static str);
+/// What is read byte by byte, by which words, which read fails, and how many bytes the sink has room for.
+#[derive(Clone, Copy)]
+struct Faulty {
+    words: &'static [&'static str],
+    input: &'static str,
+    fails: u64,
+    room: usize,
+}
 
-const FAULTY: &[Faulty] = &[
-    (&["pathmap", "--tree"], 0, 1000, 2, 0, "fault usage\n"),
-    (&["pathmap", "--tree"], 0, 3, 2, 0, "fau"),
-    (&["pathmap"], 2, 1000, 4, 2, "fault read\n"),
-    (&["pathmap"], 6, 1000, 4, 6, "fault read\n"),
-    (&["pathmap"], 6, 0, 4, 6, ""),
-    (&["pathmap"], 0, 0, 5, 6, ""),
+/// The status, the reads that there were, and the output.
+type Ended = (u8, u64, &'static str);
+
+const USAGE: Faulty = Faulty {
+    words: &["pathmap", "--tree"],
+    input: "get 5",
+    fails: 0,
+    room: 1000,
+};
+
+const ONE_CLIENT: Faulty = Faulty {
+    words: &["pathmap"],
+    ..USAGE
+};
+
+const TWO_CLIENTS: Faulty = Faulty {
+    words: &["pathmap", "--tree", "avl"],
+    input: "put 5 1\nclient 2\nput 5 1",
+    ..USAGE
+};
+
+const FAULTY: &[(Faulty, Ended)] = &[
+    (USAGE, (2, 0, "fault usage\n")),
+    (Faulty { room: 3, ..USAGE }, (2, 0, "fau")),
+    (
+        Faulty {
+            fails: 2,
+            ..ONE_CLIENT
+        },
+        (4, 2, "fault read\n"),
+    ),
+    (
+        Faulty {
+            fails: 6,
+            ..ONE_CLIENT
+        },
+        (4, 6, "fault read\n"),
+    ),
+    (
+        Faulty {
+            fails: 6,
+            room: 0,
+            ..ONE_CLIENT
+        },
+        (4, 6, ""),
+    ),
+    (
+        Faulty {
+            room: 0,
+            ..ONE_CLIENT
+        },
+        (5, 6, ""),
+    ),
+    (
+        Faulty {
+            fails: 25,
+            ..TWO_CLIENTS
+        },
+        (4, 25, "fault read\n"),
+    ),
+    (
+        Faulty {
+            room: 2,
+            ..TWO_CLIENTS
+        },
+        (5, 25, "1 "),
+    ),
 ];
 
-fn faulty_ends_so<R: Threads + Wait + Sync>(rt: &R, alloc: Global, row: Faulty) -> bool {
+fn faulty_ends_so<R: Threads + Wait + Sync>(
+    rt: &R,
+    alloc: Global,
+    faulty: Faulty,
+    ended: Ended,
+) -> bool {
     let ending = Ending {
-        status: row.3,
-        reads: row.4,
-        text: row.5.as_bytes(),
+        status: ended.0,
+        reads: ended.1,
+        text: ended.2.as_bytes(),
         is_whole: true,
     };
     match (
-        Vec::from_slice(alloc, b"get 5"),
-        Vec::from_slice(alloc, &[row.1]),
+        Vec::from_slice(alloc, faulty.input.as_bytes()),
+        Vec::from_slice(alloc, &[faulty.fails]),
     ) {
         (Ok(bytes), Ok(fails)) => {
             let source = source_of(bytes, 1, fails);
-            ends_so(rt, alloc, row.0, source, (row.2, 1), ending)
+            ends_so(rt, alloc, faulty.words, source, (faulty.room, 1), ending)
         }
         _ => false,
     }
 }
 
 fn first_other_fault<R: Threads + Wait + Sync>(rt: &R, alloc: Global) -> Option<usize> {
-    for (i, row) in FAULTY.iter().enumerate() {
-        if !faulty_ends_so(rt, alloc, *row) {
+    for (i, (faulty, ended)) in FAULTY.iter().enumerate() {
+        if !faulty_ends_so(rt, alloc, *faulty, *ended) {
             return Some(i);
         }
     }

@@ -11,6 +11,6 @@ mod state;
 
 pub use fault::LockedFault;
 pub use locked_map::LockedMap;
-pub use payment::pay;
+pub use payment::{pay, settle};
 pub use pc_avl::TreeKind;
 pub use state::{LockedState, apply, open_state, try_apply};

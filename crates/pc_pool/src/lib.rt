@@ -6,5 +6,5 @@
 mod pool;
 mod worker;
 
-pub use pool::run_clients;
+pub use pool::{run_client, run_clients};
 pub use worker::Worker;

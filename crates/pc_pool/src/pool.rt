@@ -1,4 +1,4 @@
-//! Running all workers beside each other.
+//! Running one worker, and all workers beside each other.
 ghost use Rattle.std.specs.Prelude.{◌≡◌, ◌-◌, ◌<◌, ◌≤◌, not, All};
 ghost use Rattle.pc_pool.specs.Working.{EachBecomes, HasBegun, HasWorked, IsFresh, up_to};
 
@@ -33,9 +33,10 @@ pub fn run_clients<R: Threads + Wait + Sync, W: Worker + Send, G: Gate + Sync>(
     thread::for_each_mut(rt, workers, threads, &run);
 }
 
-// Runs one worker.
+/// Runs one worker in the caller's thread: its steps 1, 2 and so on, up to its number of commands or to the first that
+/// answers false, with the gate's `before` and `after` round each. It takes no memory and can't be refused.
 #[tactic(auto, using(crate::proofs::UpTo::length_up_to))]
-fn run_client<R: Threads + Wait + Sync, W: Worker, G: Gate>(rt: &R, worker: &mut W, gate: &G)
+pub fn run_client<R: Threads + Wait + Sync, W: Worker, G: Gate>(rt: &R, worker: &mut W, gate: &G)
     requires fresh { IsFresh (W.done worker.old) (W.stopped worker.old) }
     ensures same { W.task worker.new ≡ W.task worker.old }
     ensures work { HasWorked (W.done worker.new) (W.commands_of (W.task worker.old)) (W.stopped worker.new) }

@@ -2,7 +2,7 @@
 use Rattle.std.specs.Prelude.{ℕ}
 use Rattle.pc_text.specs.declared.fault.Fault.{Fault}
 use Rattle.pc_text.specs.declared.fault.Fault.TheVariants.{Usage, Script, Read, TooLargeInput, TooManySlots, Slots}
-use Rattle.pc_text.specs.declared.fault.Fault.TheVariants.{Numbers, Memory, NotBuilt}
+use Rattle.pc_text.specs.declared.fault.Fault.TheVariants.{Numbers, Memory}
 use Rattle.pc_text.specs.declared.script.ScriptFault.{ScriptFault}
 use Rattle.pc_text.specs.declared.script.ScriptFault.TheVariants.{Bad, Memory as NoMemory}
 
@@ -15,7 +15,6 @@ status_of TooManySlots = 6
 status_of (Slots client number) = 7
 status_of (Numbers counter) = 8
 status_of Memory = 9
-status_of NotBuilt = 3
 
 abbrev pub fault_of_script : ScriptFault → Fault
 fault_of_script (Bad line kind) = Script line kind

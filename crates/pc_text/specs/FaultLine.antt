@@ -8,7 +8,7 @@ use Rattle.pc_text.specs.declared.kind.ScriptKind.TheVariants.{BadByte, UnknownW
 use Rattle.pc_text.specs.declared.kind.ScriptKind.TheVariants.{TooManyClients, TooManyLines}
 use Rattle.pc_text.specs.declared.fault.Fault.{Fault}
 use Rattle.pc_text.specs.declared.fault.Fault.TheVariants.{Usage, Script, Read, TooLargeInput, TooManySlots, Slots}
-use Rattle.pc_text.specs.declared.fault.Fault.TheVariants.{Numbers, Memory, NotBuilt}
+use Rattle.pc_text.specs.declared.fault.Fault.TheVariants.{Numbers, Memory}
 use Rattle.pc_text.specs.Printed.{turn_text}
 
 -- what is wrong with a line of a script
@@ -36,7 +36,6 @@ fault_text TooManySlots = codes "too many slots"
 fault_text (Slots client number) = codes "slots " ++ turn_text client number
 fault_text (Numbers counter) = codes "numbers " ++ counter_text counter
 fault_text Memory = codes "memory"
-fault_text NotBuilt = codes "not built"
 
 unfoldable pub fault_line : Fault → List ℕ
 fault_line fault = codes "fault " ++ fault_text fault ++ codes "\n"

@@ -42,9 +42,6 @@ pub enum Fault {
     /// Memory was wanted, and there was none.
     #[error("memory")]
     Memory,
-    /// What was asked for is not built.
-    #[error("not built")]
-    NotBuilt,
 }
 
 /// The word for a counter.
@@ -101,7 +98,7 @@ impl Fault {
     {
         match self {
             Fault::Usage => 2,
-            Fault::Script { .. } | Fault::NotBuilt => 3,
+            Fault::Script { .. } => 3,
             Fault::Read => 4,
             Fault::TooLargeInput | Fault::TooManySlots => 6,
             Fault::Slots { .. } => 7,
@@ -147,7 +144,6 @@ fn push_words(chunk: &mut Chunk, fault: Fault)
         Fault::Slots { client, number } => push_slots(chunk, client, number),
         Fault::Numbers(counter) => push_numbers(chunk, counter),
         Fault::Memory => chunk.push(b"memory"),
-        Fault::NotBuilt => chunk.push(b"not built"),
     }
 }
 

@@ -212,7 +212,6 @@ const FAULTS: &[(Fault, u8, &str)] = &[
         3,
         "line 12 too many lines",
     ),
-    (Fault::NotBuilt, 3, "not built"),
     (Fault::Read, 4, "read"),
     (Fault::TooLargeInput, 6, "input too large"),
     (Fault::TooManySlots, 6, "too many slots"),

@@ -2,7 +2,7 @@
 use Rattle.std.proofs.Common.{ℕ, ◌≤◌, List, length, sym, ap, ◌∙◌, subst}
 use Rattle.pc_text.specs.declared.limits.TheConstants.{MOST_BYTES}
 use Rattle.pathmap.specs.Serving.{RunsBytes, SpellsScript, IsRefused}
-use Rattle.pathmap.specs.OneClient.{lines_of}
+use Rattle.pathmap.specs.Runs.{lines_of}
 use Rattle.pathmap.proofs.Turns.{of_input}
 use Rattle.pathmap.proofs.serve.run_input.Goals as goal
 
@@ -22,7 +22,7 @@ returns-clause-ok g c =
       spelled = of_input (g.S.Source.left c.args.source.now) bytes (λ bs. SpellsScript bs run.script)
           c.in_ok-bytes.ensures.whole (small, run.spelled);
       at_end = c.in_ok-bytes.ensures.at_end;
-      one = run.one;
+      ran = run.ran;
       shaped = run.shaped;
     }
 

@@ -1,28 +1,36 @@
--- A history of a script: one run of all its calls; and the shape of the tree that it leaves.
-use Rattle.std.specs.Prelude.{◌≡◌, ℕ, ◌≤◌, Bool, true, false, List, length, Option, IsNone, IsSomeAnd, option_map}
+-- What a run leaves: the history of the map with its pairs, and the shape of its tree.
+use Rattle.std.specs.Prelude.{◌≡◌, ℕ, Bool, true, false, List, length, Option, IsNone, IsSomeAnd, option_map}
 use Rattle.std.specs.Prelude.{Vec}
 use Rattle.pc_model.specs.declared.call.Call.{Call}
 use Rattle.pc_model.specs.declared.call.Entry.{Entry}
 use Rattle.pc_model.specs.Map.{Pairs, IsRising}
-use Rattle.pc_model.specs.Calls.{puts_in}
 use Rattle.pc_model.specs.Replay.{fold_of, IsRight}
-use Rattle.pc_model.specs.History.{IsHistoryOf, AllOfPass, calls_of}
+use Rattle.pc_model.specs.History.{IsHistoryOf, IsNumberedFrom, AreOfClients, entries_of}
 use Rattle.pc_model.specs.Trees.{Kind, balanced, IsSearchTree}
 use Rattle.pc_model.specs.Heights.{IsBalanced}
 use Rattle.pc_model.specs.Cells.{Cells}
+use Rattle.pc_text.specs.declared.limits.TheConstants.{MOST_CLIENTS}
 use Rattle.pc_text.specs.declared.shape.ShapeLine.{ShapeLine}
 use Rattle.pc_text.specs.Shapes.{shape_of}
 use Rattle.pc_avl.specs.declared.tree_kind.TreeKind.TheVariants.{Avl}
 use Rattle.pc_locked.specs.Repairs.{IsInFullBalance}
 use Rattle.pc_locked.specs.States.{MapState}
 
--- one history of all clients: each call stands there once, in its client's order, each reply is what a
--- sorted map gives at that place, and the pairs are the map that is left, by rising key
-pub record IsOneHistory (script : List (List Call)) (history : List Entry) (pairs : Pairs) : Type 0 where
-  pub of_script : IsHistoryOf script history
+-- one history of a map: each reply is what a sorted map gives at that place, the pairs are the map that is left, by
+-- rising key, and the entries of each client are numbered 1, 2 and so on
+pub record IsMapHistory (history : List Entry) (pairs : Pairs) : Type 0 where
   pub right : IsRight history
   pub left : pairs ≡ fold_of history
   pub rising : IsRising pairs
+  pub numbered : (client : ℕ) → IsNumberedFrom 1 (entries_of client history)
+  pub of_clients : AreOfClients MOST_CLIENTS history
+
+-- What a run of a script leaves is one history of a map. Where the script has one client, it is one history of all
+-- clients: each call stands there once, in its client's order, and nothing else does. What several clients did behind
+-- their lock no clause tells.
+pub record IsRunOf (script : List (List Call)) (history : List Entry) (pairs : Pairs) : Type 0 where
+  pub map : IsMapHistory history pairs
+  pub of_one_client : length script ≡ 1 → IsHistoryOf script history
 
 -- the shape of some sound cells of this kind of tree with these pairs; a tree of the balanced kind is in balance
 pub record IsShapeOfPairs (kind : Kind) (pairs : Pairs) (lines : List ShapeLine) : Type 0 where
@@ -49,10 +57,3 @@ module _ {Z : Type 0} where
 -- a balanced tree is in full balance
 abbrev pub IsSettled : MapState → Type 0
 IsSettled s = s.kind ≡ Avl → IsInFullBalance s.cells
-
--- the calls were run by client 1, each once and in order, and paid for
-pub record HasRun (calls : List Call) (s : MapState) : Type 0 where
-  pub own : AllOfPass 1 s.entries
-  pub in_order : calls_of s.entries ≡ calls
-  pub few : length (fold_of s.entries) ≤ puts_in calls
-  pub settled : IsSettled s

@@ -5,7 +5,7 @@ use Rattle.pc_model.specs.declared.call.Call.TheVariants.{Put}
 use Rattle.pc_model.specs.Calls.{is_put, puts_in}
 use Rattle.pc_model.specs.Counts.{one_if}
 use Rattle.pc_model.proofs.Sizes.{puts_in-push, one_if-le-one}
-use Rattle.pathmap.proofs.one_client.count_puts.Goals as goal
+use Rattle.pathmap.proofs.shares.count_puts.Goals as goal
 
 pub loop-call-preserved : goal.loop-call-preserved
 loop-call-preserved c =

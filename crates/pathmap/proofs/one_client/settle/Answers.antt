@@ -1,8 +1,0 @@
--- Where nothing is owed, a balanced tree is in full balance.
-use Rattle.std.proofs.Common.{sym, ◌∙◌}
-use Rattle.std.proofs.lemmas.Bool.{OnFalse_at}
-use Rattle.pathmap.proofs.one_client.settle.Goals as goal
-
-pub returns-then-not-pay-clause-settled : goal.returns-then-not-pay-clause-settled
-returns-then-not-pay-clause-settled g c = λ avl.
-    OnFalse_at c.if-not-pay.true c.pay.ensures.balanced (sym c.pay.ensures.same.kind ∙ avl)
