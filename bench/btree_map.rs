@@ -1,47 +1,12 @@
 //! The job of pathmap over std's `BTreeMap`.
+#[allow(dead_code)]
 mod ordered_map;
 mod script;
+mod std_map;
 
-use ordered_map::OrderedMap;
-use std::collections::BTreeMap;
 use std::io;
 use std::process::ExitCode;
-
-struct Std(BTreeMap<u64, u64>);
-
-impl OrderedMap for Std {
-    fn with_room(_pairs: usize) -> Std {
-        Std(BTreeMap::new())
-    }
-
-    fn put(&mut self, key: u64, value: u64) -> Option<u64> {
-        self.0.insert(key, value)
-    }
-
-    fn get(&self, key: u64) -> Option<u64> {
-        self.0.get(&key).copied()
-    }
-
-    fn remove(&mut self, key: u64) -> Option<u64> {
-        self.0.remove(&key)
-    }
-
-    fn ceil(&self, key: u64) -> Option<(u64, u64)> {
-        self.0.range(key..).next().map(|(key, value)| (*key, *value))
-    }
-
-    fn floor(&self, key: u64) -> Option<(u64, u64)> {
-        self.0.range(..=key).next_back().map(|(key, value)| (*key, *value))
-    }
-
-    fn len(&self) -> usize {
-        self.0.len()
-    }
-
-    fn pairs(&self) -> impl Iterator<Item = (u64, u64)> {
-        self.0.iter().map(|(key, value)| (*key, *value))
-    }
-}
+use std_map::Std;
 
 fn main() -> io::Result<ExitCode> {
     ordered_map::serve::<Std>()

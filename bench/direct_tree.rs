@@ -1,6 +1,7 @@
 //! The job of pathmap on the same tree, by direct loops: the unbalanced internal search tree.
 #[allow(dead_code)]
 mod nodes;
+#[allow(dead_code)]
 mod ordered_map;
 mod script;
 

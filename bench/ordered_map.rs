@@ -27,6 +27,15 @@ pub enum Reply {
     Pair(u64, u64),
 }
 
+/// A call in a history, with its client, its number there, its reply, and its place, the stamp.
+pub struct Entry {
+    pub client: u32,
+    pub number: u32,
+    pub call: Call,
+    pub reply: Reply,
+    pub stamp: u64,
+}
+
 /// Runs the script on standard input on a map of this kind.
 pub fn serve<M: OrderedMap>() -> io::Result<ExitCode> {
     with_calls(run::<M>)
@@ -37,18 +46,22 @@ pub fn with_calls<F>(run: F) -> io::Result<ExitCode>
 where
     F: FnOnce(&mut BufWriter<StdoutLock<'static>>, &[Call]) -> io::Result<()>,
 {
+    with_clients(|out, lists| match lists {
+        [calls] => run(out, calls).map(|()| 0),
+        _ => writeln!(out, "fault not built").map(|()| 3),
+    })
+}
+
+/// Reads the script on standard input, and runs the calls of its clients so, which gives the status.
+pub fn with_clients<F>(run: F) -> io::Result<ExitCode>
+where
+    F: FnOnce(&mut BufWriter<StdoutLock<'static>>, &[Vec<Call>]) -> io::Result<u8>,
+{
     let mut bytes = Vec::new();
     io::stdin().lock().read_to_end(&mut bytes)?;
     let mut out = BufWriter::new(io::stdout().lock());
     let status = match script::read(&bytes) {
-        Ok(lists) if lists.len() == 1 => {
-            run(&mut out, &lists[0])?;
-            0
-        }
-        Ok(_) => {
-            writeln!(out, "fault not built")?;
-            3
-        }
+        Ok(lists) => run(&mut out, &lists)?,
         Err(bad) => {
             writeln!(out, "fault line {} {}", bad.line, bad.kind)?;
             3
@@ -102,6 +115,14 @@ pub fn line(out: &mut impl Write, place: u64, client: u32, number: u32, call: Ca
         Reply::Missing => writeln!(out, "none"),
         Reply::Pair(key, value) => writeln!(out, "{key} {value}"),
     }
+}
+
+/// Prints a history.
+pub fn print_history(out: &mut impl Write, history: &[Entry]) -> io::Result<()> {
+    for entry in history {
+        line(out, entry.stamp, entry.client, entry.number, entry.call, entry.reply)?;
+    }
+    Ok(())
 }
 
 /// Prints the pairs that are left.

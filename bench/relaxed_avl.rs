@@ -10,7 +10,7 @@ mod ordered_map;
 mod script;
 
 use nodes::{Node, Nodes, Place, SENTINEL, Side};
-use ordered_map::{OrderedMap, Reply, line, reply_of, room_for, with_calls};
+use ordered_map::{Entry, OrderedMap, reply_of, room_for, with_calls};
 use script::Call;
 use std::io::{self, Write};
 use std::process::ExitCode;
@@ -44,14 +44,6 @@ struct RelaxedTree {
     /// How many repairs there were, each a walk, and how many of them changed the tree.
     repairs: u64,
     changes: u64,
-}
-
-struct Entry {
-    client: u32,
-    number: u32,
-    call: Call,
-    reply: Reply,
-    stamp: u64,
 }
 
 fn other(side: Side) -> Side {
@@ -360,9 +352,7 @@ fn history_of(map: &mut RelaxedTree, calls: &[Call]) -> Vec<Entry> {
 
 fn run(out: &mut impl Write, calls: &[Call], shape: bool, repairs: bool) -> io::Result<()> {
     let mut map = RelaxedTree::with_room(room_for(calls));
-    for entry in history_of(&mut map, calls) {
-        line(out, entry.stamp, entry.client, entry.number, entry.call, entry.reply)?;
-    }
+    ordered_map::print_history(out, &history_of(&mut map, calls))?;
     ordered_map::print_pairs(out, &map)?;
     if shape {
         let root = map.nodes.at(SENTINEL).left;
