@@ -2,16 +2,26 @@
 
 A `Case` is one script, timed whole. A `Visits` is two scripts, which differ only in how far down a line of
 nodes their commands go: the difference of their times, by the difference of the nodes visited, is the time
-of one visit.
+of one visit. A `Clients` is a script of some clients, each with as many commands as in the others.
 """
+import itertools
 import random
 from dataclasses import dataclass
 
-# Every script but the line of nodes has as many commands as a script may have.
+# The scripts of one client have as many commands as a script may have, but for those of visits.
 COMMANDS = 60_000
 # The nodes of the line that visits are timed on, and the commands that go down it.
 LINE = 2_000
 DESCENTS = 20_000
+# The commands of each client of a `Clients`, the words of which those of each kind are drawn, and from how many
+# keys they draw.
+EACH = 15_000
+KINDS = {
+    "reads": ["put"] * 3 + ["remove"] + ["get"] * 16,
+    "mixed": ["put", "put", "get", "remove", "ceil", "floor"],
+    "updates": ["put"] * 3 + ["remove"] * 2,
+}
+KEYS = {"few": 64, "many": 100_000}
 
 
 @dataclass
@@ -31,6 +41,27 @@ class Visits:
     far: list[str]
     # How many nodes the commands of `far` visit that those of `near` don't.
     visits: int
+
+
+@dataclass
+class Clients:
+    kind: str
+    keys: str
+    clients: int
+    tree: str
+
+    @property
+    def name(self):
+        return f"{'avl ' if self.tree == 'avl' else ''}clients {self.kind} {self.keys} {self.clients}"
+
+    def lines(self):
+        """The commands of one client after those of another, with a line before that names it."""
+        dice = random.Random(7)
+        for client in range(1, self.clients + 1):
+            yield f"client {client}"
+            for _ in range(EACH):
+                word, key = dice.choice(KINDS[self.kind]), dice.randrange(KEYS[self.keys])
+                yield f"{word} {key} {dice.randrange(10**9)}" if word == "put" else f"{word} {key}"
 
 
 def put_get():
@@ -110,6 +141,11 @@ def visits(word, rising=True):
     )
 
 
+def cases_of_clients():
+    for tree, kind, keys, clients in itertools.product(["bst", "avl"], KINDS, KEYS, [1, 2, 4]):
+        yield Clients(kind, keys, clients, tree)
+
+
 def all_cases():
     yield Case("put_get", list(put_get()))
     yield Case("fill_drain", list(fill_drain()))
@@ -126,3 +162,4 @@ def all_cases():
         yield visits(word)
     for word in ["ceil", "floor"]:
         yield visits(word, rising=False)
+    yield from cases_of_clients()
