@@ -52,7 +52,7 @@ check 'a loose word' 2 'fault usage\n' 'put 5 50\n' shape
 check 'a word that is not UTF-8' 2 'fault usage\n' '' $'\xff'
 check 'a number too large' 3 'fault line 1 bad number\n' 'put 1000000000000000000 1\n'
 check 'the first bad line' 3 'fault line 2 unknown word\n' 'get 1\nGet 1\nput\n'
-check 'a second client' 3 'fault not built\n' 'client 2\nget 1\n'
+check 'a second client' 0 '1 2.1 get 1 = none\nleft 0\nend\n' 'client 2\nget 1\n'
 
 if [ -w /dev/full ]; then
     verdict 'an output that is full' 5 "$(printf 'put 5 50\n' | bin/pathmap 2>/dev/null >/dev/full; echo $?)"

@@ -191,6 +191,60 @@ fn steps_of_two_workers_are_done_beside_each_other(rt: HostRuntime) {
     );
 }
 
+/// A gate that counts a client's commands: each is begun where the one before it has ended, and ended where it has
+/// begun.
+#[derive(Drop)]
+struct Turnstile {
+    calls: [AtomicU64; 2],
+    faults: AtomicU64,
+}
+
+impl Turnstile {
+    // Notes a call of a client, which has to be the one after so many others of it.
+    fn pass(&self, client: u32, calls: u64) {
+        let place = if client == 1 { 0 } else { 1 };
+        if self.calls[place].fetch_add(1, Ordering::SeqCst) != calls {
+            self.faults.fetch_add(1, Ordering::SeqCst);
+        }
+    }
+}
+
+impl Gate for Turnstile {
+    fn before(&self, client: u32, number: u32) {
+        self.pass(client, u64::from(number).wrapping_mul(2).wrapping_sub(2));
+    }
+
+    fn after(&self, client: u32, number: u32) {
+        self.pass(client, u64::from(number).wrapping_mul(2).wrapping_sub(1));
+    }
+}
+
+// How many calls of the gate there were by each of two clients, and how many out of order.
+fn gate_calls<R: Threads + Wait + Sync>(
+    rt: &R,
+    alloc: Global,
+    input: &str,
+) -> Result<(u64, u64, u64), AllocError> {
+    let gate = Turnstile {
+        calls: [AtomicU64::new(0), AtomicU64::new(0)],
+        faults: AtomicU64::new(0),
+    };
+    served(rt, alloc, &["pathmap"], input, &gate)?;
+    Ok((
+        gate.calls[0].load(Ordering::SeqCst),
+        gate.calls[1].load(Ordering::SeqCst),
+        gate.faults.load(Ordering::SeqCst),
+    ))
+}
+
+#[test]
+fn the_gate_is_called_before_and_after_each_command(rt: HostRuntime) {
+    let alone = gate_calls(&rt, rt.alloc(), "put 1 1\nget 1\nremove 1\n");
+    let both = gate_calls(&rt, rt.alloc(), "get 1\nclient 2\nput 1 1\nget 2\n");
+    let none = gate_calls(&rt, rt.alloc(), "get 1\nget\n");
+    assert_eq!(rt; (alone, both, none), (Ok((6, 0, 0)), Ok((2, 4, 0)), Ok((0, 0, 0))));
+}
+
 const TWO_AT_ONE_KEY: &str = "client 1\nput 1 1\nget 1\nclient 2\nput 1 2\nget 1\n";
 
 /// The histories of these four commands, and what each leaves.
