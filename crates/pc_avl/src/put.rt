@@ -4,7 +4,7 @@ ghost use Rattle.pc_plan.specs.Asking.{asked};
 
 use pc_bst::{NodeKind, TreePut};
 use pc_model::{Call, Reply, Settle};
-use pc_plan::{Change, Plan, Told, Turn};
+use pc_plan::{Change, End, Plan, StillCells, Told, Turn};
 use std::marker::Model;
 
 /// The plan of a put.
@@ -54,6 +54,16 @@ impl Plan for AvlPut {
     #[inline(always)]
     fn step(&mut self, told: Told, change: &mut Change) -> Turn {
         self.put.step(told, change)
+    }
+
+    #[inline(always)]
+    fn stride<C: StillCells>(
+        &mut self,
+        told: Told,
+        cells: &C,
+        change: &mut Change,
+    ) -> Result<Told, End> {
+        self.put.stride(told, cells, change)
     }
 
     fn entry(call: (u64, u64)) -> Option<Call> {

@@ -2,11 +2,12 @@
 //! search for the nearest key from a number up, and looks at its children. Where their heights are close the
 //! node gets the height that they ask for; else the higher child is looked at, and what hangs below it, and
 //! the node is rotated. A node below that is out of balance itself is to be repaired first.
-ghost use Rattle.std.specs.Prelude.{◌≡◌, ◌<◌, length};
+ghost use Rattle.std.specs.Prelude.{◌≡◌, ◌<◌, length, IfOk, IfErr};
 ghost use Rattle.pc_model.specs.Cells.{node_at};
 ghost use Rattle.pc_model.specs.TreeForms.{height_over};
 ghost use Rattle.pc_plan.specs.Asking.{asked};
 ghost use Rattle.pc_plan.specs.Planned.{Planned};
+ghost use Rattle.pc_plan.specs.Turns.{CanGoOn, GoesOn, ComesFrom, last_ask};
 ghost use Rattle.pc_plan.specs.Walks.{walk_step};
 ghost use Rattle.pc_avl.specs.Balances.{are_close, is_in_balance, heavier_side};
 ghost use Rattle.pc_avl.specs.Repairs.{repair_of, first_phase, nowhere, answers, ends, at_place, placed, met};
@@ -20,7 +21,8 @@ ghost use Rattle.pc_avl.specs.Looks.{look_step};
 use crate::look::{Look, LookStep, Looked, MISSING};
 use crate::repair_change::{height_over, opposite};
 use pc_model::{Field, Reply, Side};
-use pc_plan::{Above, Change, SENTINEL, Step, Told, Turn, Walk, leads_back, node_of};
+use pc_plan::{Above, Change, Descent, End, SENTINEL, Step, StillCells, Told, Turn, Walk};
+use pc_plan::{leads_back, node_of, tell};
 
 /// What a repair is of.
 #[derive(Clone, Copy)]
@@ -224,17 +226,82 @@ impl Repair {
         }
     }
 
-    /// The same, for a run of the repair of a key: the turns on its walk and within a look are taken in the run
-    /// itself, all else by a call.
+    /// Takes some turns on cells that stand still: the way down of the walk to a key at once, or all that is left
+    /// of a look, and else one turn.
     #[inline(always)]
-    pub fn step_to_key(&mut self, told: Told, change: &mut Change) -> Turn
-        ensures { (self.new, asked result change.new) ≡ repair_moves self.old told }
+    pub fn stride<C: StillCells>(
+        &mut self,
+        told: Told,
+        cells: &C,
+        change: &mut Change,
+    ) -> Result<Told, End>
+        requires { CanGoOn repair_moves (C.slots cells.now) (C.cells cells.now) (repair_moves self.old told) }
+        ensures goes_on { IfOk result
+            (GoesOn repair_moves (C.cells cells.now) (repair_moves self.old told) 1 self.new) }
+        ensures ends { IfErr result (λ end.
+            ComesFrom repair_moves (C.cells cells.now) (repair_moves self.old told) (last_ask end change.new)) }
     {
         match self.phase {
-            RepairPhase::Walking => self.walk_on(told),
-            RepairPhase::Looking(place) => self.look_on(place, told, change),
-            _ => self.step(told, change),
+            RepairPhase::Walking => self.go_down(told, cells),
+            RepairPhase::Looking(place) => self.look_at_once(place, told, cells, change),
+            _ => tell(self.step(told, change), cells),
         }
+    }
+
+    /// Passes the nodes on the walk to the key at once, and comes to the look at the node that has it.
+    #[inline(always)]
+    fn go_down<C: StillCells>(&mut self, told: Told, cells: &C) -> Result<Told, End>
+        requires walks { self.old.phase ≡ RepairPhase.Walking }
+        requires can { CanGoOn repair_moves (C.slots cells.now) (C.cells cells.now) (repair_moves self.old told) }
+        ensures goes_on { IfOk result
+            (GoesOn repair_moves (C.cells cells.now) (repair_moves self.old told) 1 self.new) }
+        ensures ends { IfErr result (λ end. (p : Planned) →
+            ComesFrom repair_moves (C.cells cells.now) (repair_moves self.old told) (last_ask end p)) }
+    {
+        let Some(descent) = Descent::of(self.walk, self.above.key, told, cells) else {
+            return tell(self.walk_on(told), cells);
+        };
+        self.walk = descent.walk;
+        self.above.key = descent.above_key;
+        self.come_to(descent.version, cells)
+    }
+
+    /// Tells the walk the version of the node that it visits, and its key.
+    #[inline(always)]
+    fn come_to<C: StillCells>(&mut self, version: u64, cells: &C) -> Result<Told, End>
+        requires walks { self.old.phase ≡ RepairPhase.Walking }
+        requires can { CanGoOn repair_moves (C.slots cells.now) (C.cells cells.now)
+            (repair_moves self.old (VersionTold version)) }
+        ensures goes_on { IfOk result
+            (GoesOn repair_moves (C.cells cells.now) (repair_moves self.old (VersionTold version)) 1 self.new) }
+        ensures ends { IfErr result (λ end. (p : Planned) → ComesFrom repair_moves (C.cells cells.now)
+            (repair_moves self.old (VersionTold version)) (last_ask end p)) }
+    {
+        let key = tell(self.walk_on(Told::Version(version)), cells)?;
+        tell(self.walk_on(key), cells)
+    }
+
+    /// Takes all that is left of a look at once.
+    #[inline(always)]
+    fn look_at_once<C: StillCells>(
+        &mut self,
+        place: Place,
+        told: Told,
+        cells: &C,
+        change: &mut Change,
+    ) -> Result<Told, End>
+        requires looks { self.old.phase ≡ RepairPhase.Looking place }
+        requires can { CanGoOn repair_moves (C.slots cells.now) (C.cells cells.now) (repair_moves self.old told) }
+        ensures goes_on { IfOk result
+            (GoesOn repair_moves (C.cells cells.now) (repair_moves self.old told) 1 self.new) }
+        ensures ends { IfErr result (λ end.
+            ComesFrom repair_moves (C.cells cells.now) (repair_moves self.old told) (last_ask end change.new)) }
+    {
+        let Some(look) = self.look.at_once(told, cells) else {
+            return tell(self.step(told, change), cells);
+        };
+        self.look = look;
+        tell(self.keep(place, change), cells)
     }
 
     /// Tells the walk something, and asks for what it does next.

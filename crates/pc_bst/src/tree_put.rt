@@ -1,13 +1,14 @@
 //! The put into a search tree of either kind: the walk, and where it finds the key, a change of the value
 //! there, else a fresh node at the link where the walk ended.
-ghost use Rattle.std.specs.Prelude.{◌≡◌};
+ghost use Rattle.std.specs.Prelude.{◌≡◌, IfOk, IfErr};
 ghost use Rattle.pc_plan.specs.Asking.{asked};
 ghost use Rattle.pc_plan.specs.NodeChanges.{planned_by};
+ghost use Rattle.pc_plan.specs.Turns.{CanGoOn, GoesOn, ComesFrom, last_ask};
 ghost use Rattle.pc_bst.specs.Puts.{put_of, put_moves, put_walks, put_gives_up, value_changed, leaf_added};
 
 use crate::kind::{NodeKind, charge_key_of};
 use pc_model::{Field, Reply, Side};
-use pc_plan::{Change, Fresh, Step, To, Told, Turn, Walk};
+use pc_plan::{Change, Descent, End, Fresh, Step, StillCells, To, Told, Turn, Walk, tell};
 
 /// Where a put is.
 #[derive(Clone, Copy)]
@@ -63,6 +64,40 @@ impl TreePut {
             }
             _ => self.give_up(),
         }
+    }
+
+    /// Takes some turns on cells that stand still: the walk passes nodes at once, and then comes one turn.
+    #[inline(always)]
+    pub fn stride<C: StillCells>(
+        &mut self,
+        told: Told,
+        cells: &C,
+        change: &mut Change,
+    ) -> Result<Told, End>
+        requires { CanGoOn put_moves (C.slots cells.now) (C.cells cells.now) (put_moves self.old told) }
+        ensures goes_on { IfOk result (GoesOn put_moves (C.cells cells.now) (put_moves self.old told) 1 self.new) }
+        ensures ends { IfErr result (λ end.
+            ComesFrom put_moves (C.cells cells.now) (put_moves self.old told) (last_ask end change.new)) }
+    {
+        let next = self.descend(told, cells);
+        tell(self.step(next, change), cells)
+    }
+
+    /// Lets the walk pass nodes, where it is on its way down, and finds what it is to be told then.
+    #[inline(always)]
+    fn descend<C: StillCells>(&mut self, told: Told, cells: &C) -> Told
+        requires { CanGoOn put_moves (C.slots cells.now) (C.cells cells.now) (put_moves self.old told) }
+        ensures { GoesOn put_moves (C.cells cells.now) (put_moves self.old told) 0 self.new result }
+    {
+        let PutPhase::Walking = self.phase else {
+            return told;
+        };
+        let Some(descent) = Descent::of(self.walk, self.above_key, told, cells) else {
+            return told;
+        };
+        self.walk = descent.walk;
+        self.above_key = descent.above_key;
+        Told::Version(descent.version)
     }
 
     /// Tells the walk something, and asks for what it does next.

@@ -10,4 +10,3 @@ pub mod QuietPlans
 pub mod RunRight
 pub mod ShapeBuilding
 pub mod ShapeListing
-pub mod TraceSteps

@@ -17,6 +17,7 @@ use Rattle.pc_plan.specs.declared.plan.Told.TheVariants.{Begin}
 use Rattle.pc_plan.specs.Planned.{Planned}
 use Rattle.pc_plan.specs.Terms.{Terms}
 use Rattle.pc_plan.specs.Traces.{Event}
+use Rattle.pc_plan.specs.Turns.{CanBeTold, CanGoOn}
 use Rattle.pc_plan.specs.Lawful.{IsLawfulAsk, IsLawfulChange}
 use Rattle.pc_plan.specs.Laws.{PlanLaws}
 use Rattle.pc_plan.specs.Runs.{Takes, IsRightChange, IsRightAsk, reached, past_of, AgreesWith}
@@ -25,7 +26,6 @@ use Rattle.pc_plan.proofs.Courses.{PastHolds}
 use Rattle.pc_plan.proofs.FittingPlans.{exchanges_fit}
 use Rattle.pc_plain.specs.PlainCells.{PlainWords, cells_of, AreBelowLimits, kept}
 use Rattle.pc_plain.specs.PlainRuns.{exchange_in, IsMade, HoldsPairs, EndsWith, ComesTo, IsRunOf, RunsRight}
-use Rattle.pc_plain.specs.PlainTurns.{CanBeTold, CanGoOn}
 use Rattle.pc_plain.specs.PlainWriting.{CanMake, IsWritten}
 use Rattle.pc_plain.proofs.AgreeingTraces.{VisitsNode, AreNodes, told_words, told_kinds, visits_nodes}
 use Rattle.pc_plain.proofs.KeptCells.{kept_parity}
@@ -66,7 +66,7 @@ slot_taken slots slot c None takes = tt
 slot_taken slots slot c (Some f) takes = takes.0
 
 can_be_told : (form : Form) (w : PlainWords) (ps : Pairs) (terms : Terms) (past : List Event) (a : Ask)
-    → IsRightAsk form w.slots (cells_of w) ps terms past a → CanBeTold w a
+    → IsRightAsk form w.slots (cells_of w) ps terms past a → CanBeTold w.slots (cells_of w) a
 can_be_told form w ps terms past (Visit n) right = (right.0, right.1)
 can_be_told form w ps terms past (Read n f) right = right
 can_be_told form w ps terms past (Change p) right = tt
@@ -107,7 +107,7 @@ module _ {P C : Type 0} (start : C → P) (moves : P → Told → P × Ask) (can
   comes_right a come ps sound = subst (IsRightAfter ps come.0) come.2 (right_along ps sound come.0 come.1)
 
   -- a plan can go on from its beginning
-  pub can_go_on : HoldsPairs form w → CanGoOn moves w (moves (start call) Begin)
+  pub can_go_on : HoldsPairs form w → CanGoOn moves w.slots (cells_of w) (moves (start call) Begin)
   can_go_on holds ts agrees =
       can_be_told form w holds.0 (terms call) (past_of start moves call ts) (reached start moves call ts).1
       (right_along holds.0 holds.1 ts agrees)

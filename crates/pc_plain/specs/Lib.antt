@@ -3,7 +3,6 @@ pub mod PlainCells
 pub mod PlainPairs
 pub mod PlainRuns
 pub mod PlainShapes
-pub mod PlainTurns
 pub mod PlainWriting
 pub mod QuietRuns
 pub mod ShapePlaces

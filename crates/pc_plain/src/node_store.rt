@@ -3,7 +3,7 @@ ghost use Rattle.std.specs.Prelude.{◌≡◌, ◌+◌, ◌≤◌, IfOk, IfErr, 
 
 use crate::node_words::{all_slots, give_slot, opening_words, take_slot, word, write_adds};
 use pc_model::{Field, Memory, Reply};
-use pc_plan::Change;
+use pc_plan::{Change, StillCells};
 use std::alloc::Global;
 use std::marker::Model;
 use thiserror::Error;
@@ -91,5 +91,18 @@ impl NodeStore {
         write_adds(&mut self.words, slot, change.adds());
         give_slot(&mut self.free, change.mark);
         Ok(change.reply)
+    }
+}
+
+impl StillCells for NodeStore {
+    ghost use Rattle.pc_plain.specs.PlainCells.{cells_of};
+
+    ghost slots = { λ s. s.slots };
+
+    ghost cells = { cells_of };
+
+    #[inline(always)]
+    fn word(&self, node: u32, field: Field) -> u64 {
+        word(&self.words, node, field)
     }
 }

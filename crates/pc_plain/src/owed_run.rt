@@ -6,9 +6,9 @@ ghost use Rattle.pc_plain.specs.PlainRuns.{HoldsPairs, RunsRight};
 
 use crate::node_store::NoPlainSlot;
 use crate::plain::PlainCells;
-use crate::run::{End, end_of};
+use crate::run::end_of;
 use pc_model::{Owed, Reply, Settle};
-use pc_plan::Plan;
+use pc_plan::{End, Plan};
 
 /// Settles what a call settles, and then enters the charges that came with it.
 fn take_up(owed: &mut Owed, settlement: Settle, charges: &[u64])

@@ -4,77 +4,44 @@ ghost use Rattle.std.specs.Prelude.{◌≡◌, ◌≤◌, IfOk, IfErr, OnErr, On
 ghost use Rattle.pc_plain.specs.PlainCells.{cells_of, AreBelowLimits};
 ghost use Rattle.pc_plain.specs.PlainRuns.{HoldsPairs, ComesTo, IsRunOf, RunsRight};
 ghost use Rattle.pc_plain.specs.PlainRuns.{ComesToWantSlot, AllInUse, HasPairPerSlot};
-ghost use Rattle.pc_plain.specs.PlainTurns.{last_ask, CanGoOn, GoesOn, ComesFrom};
+ghost use Rattle.pc_plan.specs.Turns.{last_ask, CanGoOn, GoesOn, ComesFrom};
 
 use crate::node_store::{NoPlainSlot, NodeStore};
 use crate::plain::PlainCells;
-use pc_model::{Field, Reply};
-use pc_plan::{Change, Plan, Told, Turn};
+use pc_model::Reply;
+use pc_plan::{Change, End, Plan, Told};
 
-/// How a plan ends.
-#[derive(Clone, Copy)]
-pub(crate) enum End {
-    /// It wrote an exchange.
-    Exchange,
-    /// It answered.
-    Answer(Reply),
-}
-
-/// Tells the plan something, and finds what it is to be told next. The two links have arms of their own:
-/// the machine then goes on along the one that it expects, and doesn't wait for the key first.
 #[inline(always)]
-fn take_turn<P: Plan>(
+fn take_two_strides<P: Plan>(
     plan: &mut P,
     nodes: &NodeStore,
     told: Told,
     change: &mut Change,
 ) -> Result<Told, End>
-    requires { CanGoOn P.moves nodes.now (P.moves plan.old told) }
-    ensures goes_on { IfOk result (GoesOn P.moves nodes.now (P.moves plan.old told) 1 plan.new) }
+    requires { CanGoOn P.moves nodes.now.slots (cells_of nodes.now) (P.moves plan.old told) }
+    ensures goes_on { IfOk result (GoesOn P.moves (cells_of nodes.now) (P.moves plan.old told) 2 plan.new) }
     ensures ends { IfErr result (λ end.
-        ComesFrom P.moves nodes.now (P.moves plan.old told) (last_ask end change.new)) }
+        ComesFrom P.moves (cells_of nodes.now) (P.moves plan.old told) (last_ask end change.new)) }
 {
-    match plan.step(told, change) {
-        Turn::Visit(node) => Ok(Told::Version(nodes.word(node, Field::Version))),
-        Turn::Read(node, Field::Left) => Ok(Told::Number(nodes.word(node, Field::Left))),
-        Turn::Read(node, Field::Right) => Ok(Told::Number(nodes.word(node, Field::Right))),
-        Turn::Read(node, field) => Ok(Told::Number(nodes.word(node, field))),
-        Turn::Change => Err(End::Exchange),
-        Turn::Answer(reply) => Err(End::Answer(reply)),
-    }
+    let second = plan.stride(told, nodes, change)?;
+    plan.stride(second, nodes, change)
 }
 
+/// As many strides as a walk mostly has turns at a node: its version, its key and a link.
 #[inline(always)]
-fn take_two_turns<P: Plan>(
+fn take_three_strides<P: Plan>(
     plan: &mut P,
     nodes: &NodeStore,
     told: Told,
     change: &mut Change,
 ) -> Result<Told, End>
-    requires { CanGoOn P.moves nodes.now (P.moves plan.old told) }
-    ensures goes_on { IfOk result (GoesOn P.moves nodes.now (P.moves plan.old told) 2 plan.new) }
+    requires { CanGoOn P.moves nodes.now.slots (cells_of nodes.now) (P.moves plan.old told) }
+    ensures goes_on { IfOk result (GoesOn P.moves (cells_of nodes.now) (P.moves plan.old told) 3 plan.new) }
     ensures ends { IfErr result (λ end.
-        ComesFrom P.moves nodes.now (P.moves plan.old told) (last_ask end change.new)) }
+        ComesFrom P.moves (cells_of nodes.now) (P.moves plan.old told) (last_ask end change.new)) }
 {
-    let second = take_turn(plan, nodes, told, change)?;
-    take_turn(plan, nodes, second, change)
-}
-
-/// As many turns as a walk mostly has at a node: its version, its key and a link.
-#[inline(always)]
-fn take_three_turns<P: Plan>(
-    plan: &mut P,
-    nodes: &NodeStore,
-    told: Told,
-    change: &mut Change,
-) -> Result<Told, End>
-    requires { CanGoOn P.moves nodes.now (P.moves plan.old told) }
-    ensures goes_on { IfOk result (GoesOn P.moves nodes.now (P.moves plan.old told) 3 plan.new) }
-    ensures ends { IfErr result (λ end.
-        ComesFrom P.moves nodes.now (P.moves plan.old told) (last_ask end change.new)) }
-{
-    let second = take_turn(plan, nodes, told, change)?;
-    take_two_turns(plan, nodes, second, change)
+    let second = plan.stride(told, nodes, change)?;
+    take_two_strides(plan, nodes, second, change)
 }
 
 /// Tells the plan of a call what stands in the nodes, to its end. An exchange stands in `change` then.
@@ -88,7 +55,7 @@ pub(crate) fn end_of<P: Plan>(nodes: &NodeStore, call: P::Call, change: &mut Cha
     let mut plan = P::begin(call);
     let mut told = Told::Begin;
     for _round in 0..3 * (nodes.slots() + 2) {
-        match take_three_turns(&mut plan, nodes, told, change) {
+        match take_three_strides(&mut plan, nodes, told, change) {
             Ok(next) => told = next,
             Err(end) => return end,
         }

@@ -1,11 +1,13 @@
 pub mod Agreement
 pub mod Courses
+pub mod Descending
 pub mod FittingPlans
 pub mod LawfulNodes
 pub mod Learning
 pub mod NodeStays
 pub mod NodeWords
 pub mod Quiets
+pub mod TurnSteps
 pub mod Unseen
 pub mod WalkCourses
 pub mod WalkKeys

@@ -1,5 +1,6 @@
 pub mod Asking
 pub mod CallLaws
+pub mod Descents
 pub mod EndLaws
 pub mod Fitting
 pub mod Lawful
@@ -11,4 +12,5 @@ pub mod Runs
 pub mod SlotsAfter
 pub mod Terms
 pub mod Traces
+pub mod Turns
 pub mod Walks

@@ -4,11 +4,15 @@
 #![tactic(auto)]
 
 mod change;
+mod descent;
 mod laws;
 mod plan;
+mod still;
 mod walk;
 
 pub use change::{Add, Change, Fresh, To};
+pub use descent::Descent;
 pub use laws::{exchanges_fit, standing_is_agreeing};
-pub use plan::{Ask, Plan, Told, Turn};
+pub use plan::{Ask, End, Plan, Told, Turn};
+pub use still::{StillCells, tell};
 pub use walk::{Above, Awaited, SENTINEL, Step, Walk, leads_back, node_of};

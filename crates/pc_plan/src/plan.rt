@@ -1,5 +1,5 @@
 //! What a plan is: a machine that is told and asks.
-ghost use Rattle.std.specs.Prelude.{◌≡◌};
+ghost use Rattle.std.specs.Prelude.{◌≡◌, IfOk, IfErr};
 ghost use Rattle.pc_model.specs.declared.call.Reply.{Reply as MapReply};
 ghost use Rattle.pc_model.specs.declared.owed.Settle.{Settle as Settled};
 ghost use Rattle.pc_model.specs.Forms.{Form};
@@ -8,8 +8,10 @@ ghost use Rattle.pc_plan.specs.declared.plan.Told.{Told as Heard};
 ghost use Rattle.pc_plan.specs.Asking.{asked};
 ghost use Rattle.pc_plan.specs.Laws.{PlanLaws};
 ghost use Rattle.pc_plan.specs.Terms.{Terms};
+ghost use Rattle.pc_plan.specs.Turns.{CanGoOn, GoesOn, ComesFrom, last_ask};
 
 use crate::change::Change;
+use crate::still::{StillCells, tell};
 use pc_model::{Call, Field, Reply, Settle};
 
 /// What a plan asks next.
@@ -35,6 +37,15 @@ pub enum Turn {
     /// To make the exchange that it wrote. The plan has ended.
     Change,
     /// Nothing more: this is the reply.
+    Answer(Reply),
+}
+
+/// How a plan ends, where an exchange stands in the change that was lent to it.
+#[derive(Clone, Copy)]
+pub enum End {
+    /// It wrote an exchange.
+    Exchange,
+    /// It answered.
     Answer(Reply),
 }
 
@@ -90,6 +101,23 @@ pub trait Plan: Drop {
             Turn::Change => Ask::Change(change),
             Turn::Answer(reply) => Ask::Answer(reply),
         }
+    }
+
+    /// Takes some turns on cells that stand still, at least one: the plan is told this, and then what stands in
+    /// the cells. Answers what it is to be told next, or how it has ended.
+    #[inline(always)]
+    fn stride<C: StillCells>(
+        &mut self,
+        told: Told,
+        cells: &C,
+        change: &mut Change,
+    ) -> Result<Told, End>
+        requires { CanGoOn moves (C.slots cells.now) (C.cells cells.now) (moves self.old told) }
+        ensures goes_on { IfOk result (GoesOn moves (C.cells cells.now) (moves self.old told) 1 self.new) }
+        ensures ends { IfErr result (λ end.
+            ComesFrom moves (C.cells cells.now) (moves self.old told) (last_ask end change.new)) }
+    {
+        tell(self.step(told, change), cells)
     }
 
     /// The call that an entry of a history has for this plan.

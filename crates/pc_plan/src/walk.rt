@@ -16,7 +16,7 @@ pub const SENTINEL: u32 = 1;
 
 /// The side of a node with a key on which another key lies.
 #[inline]
-fn side_toward(key: u64, of_node: u64) -> Side
+pub fn side_toward(key: u64, of_node: u64) -> Side
     ensures { result ≡ side_toward key of_node }
 {
     if key < of_node {
