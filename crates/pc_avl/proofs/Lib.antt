@@ -1,3 +1,4 @@
 pub mod NoSlots
 pub mod RepairSlots
+pub mod RepairStrides
 mod Seeking

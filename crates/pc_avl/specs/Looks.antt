@@ -1,5 +1,5 @@
 -- A look at a node, as a machine.
-use Rattle.std.specs.Prelude.{ℕ}
+use Rattle.std.specs.Prelude.{ℕ, Option, Some, None}
 use Rattle.pc_model.specs.declared.cell.Field.TheVariants.{Version as VersionField, Key as KeyField, Left as LeftLink}
 use Rattle.pc_model.specs.declared.cell.Field.TheVariants.{Right as RightLink, Parent as ParentField}
 use Rattle.pc_model.specs.declared.cell.Field.TheVariants.{Height as HeightField}
@@ -79,3 +79,24 @@ look_told l _ _ = (l, Astray)
 
 abbrev pub look_step : Look → Told → Look × LookStep
 look_step l t = look_told l l.unread t
+
+-- a look at its end on cells, at a node with this version and key and this left link
+abbrev pub told_all : Cells → ℕ → ℕ → ℕ → ℕ → Look
+told_all c n v k left = having (record {
+  node = n;
+  version = v;
+  key = k;
+  left = left;
+  right = c n RightLink;
+  parent = c n ParentField;
+  height = c n HeightField;
+}) Height
+
+-- a look that is told what it waits for at its visit or at its left link, once it was told the rest in cells
+abbrev pub whole_look_at : Cells → Looked → Unread → Told → Option Look
+whole_look_at c s Version (VersionTold v) = Some (told_all c s.node v (c s.node KeyField) (c s.node LeftLink))
+whole_look_at c s Left (Number x) = Some (told_all c s.node s.version s.key x)
+whole_look_at c s _ _ = None
+
+abbrev pub whole_look : Cells → Look → Told → Option Look
+whole_look c l t = whole_look_at c l.seen l.unread t

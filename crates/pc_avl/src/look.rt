@@ -1,9 +1,11 @@
 //! A look at a node: its visit, and the reads of all that a repair needs of it.
 ghost use Rattle.std.specs.Prelude.{◌≡◌};
-ghost use Rattle.pc_avl.specs.Looks.{missing, link_at, look_for, look_on, look_step};
+ghost use Rattle.std.specs.Prelude.{Some};
+ghost use Rattle.pc_model.specs.Cells.{IsNode};
+ghost use Rattle.pc_avl.specs.Looks.{missing, link_at, look_for, look_on, look_step, told_all, whole_look};
 
 use pc_model::{Field, Side};
-use pc_plan::Told;
+use pc_plan::{StillCells, Told};
 
 /// What was told of a node. Where a link names no node it is node 0, whose height is 0.
 #[derive(Clone, Copy)]
@@ -86,6 +88,8 @@ impl Looked {
 }
 
 impl Look {
+    ghost use Rattle.pc_avl.specs.declared.look.Look.{Look};
+
     /// A look at a node that is to be visited.
     #[inline]
     pub fn new(node: u32) -> Look
@@ -144,6 +148,52 @@ impl Look {
                 LookStep::Done
             }
             _ => LookStep::Astray,
+        }
+    }
+
+    /// The look as it ends on cells that stand still, where it is told what it waits for at its visit, or at its
+    /// left link.
+    #[inline(always)]
+    pub fn at_once<C: StillCells>(&self, told: Told, cells: &C) -> Option<Look>
+        requires { (l : Look) → whole_look (C.cells cells.now) self.now told ≡ Some l
+            → IsNode (C.slots cells.now) self.now.seen.node }
+        ensures { result ≡ whole_look (C.cells cells.now) self.now told }
+    {
+        let seen = &self.seen;
+        match (self.unread, told) {
+            (Unread::Version, Told::Version(version)) => {
+                let key = cells.word(seen.node, Field::Key);
+                let left = cells.word(seen.node, Field::Left);
+                Some(Look::told_all(seen.node, version, key, left, cells))
+            }
+            (Unread::Left, Told::Number(left)) => Some(Look::told_all(
+                seen.node,
+                seen.version,
+                seen.key,
+                left,
+                cells,
+            )),
+            _ => None,
+        }
+    }
+
+    /// A look at its end, on cells that stand still.
+    #[inline(always)]
+    fn told_all<C: StillCells>(node: u32, version: u64, key: u64, left: u64, cells: &C) -> Look
+        requires { IsNode (C.slots cells.now) node }
+        ensures { result ≡ told_all (C.cells cells.now) node version key left }
+    {
+        Look {
+            seen: Looked {
+                node,
+                version,
+                key,
+                left,
+                right: cells.word(node, Field::Right),
+                parent: cells.word(node, Field::Parent),
+                height: cells.word(node, Field::Height),
+            },
+            unread: Unread::Height,
         }
     }
 

@@ -8,6 +8,7 @@ ghost use Rattle.pc_model.specs.TreeForms.{height_over};
 ghost use Rattle.pc_plan.specs.Asking.{asked};
 ghost use Rattle.pc_plan.specs.Planned.{Planned};
 ghost use Rattle.pc_plan.specs.Turns.{CanGoOn, GoesOn, ComesFrom, last_ask};
+ghost use Rattle.pc_plan.specs.declared.plan.Told.TheVariants.{Version as VersionTold};
 ghost use Rattle.pc_plan.specs.Walks.{walk_step};
 ghost use Rattle.pc_avl.specs.Balances.{are_close, is_in_balance, heavier_side};
 ghost use Rattle.pc_avl.specs.Repairs.{repair_of, first_phase, nowhere, answers, ends, at_place, placed, met};
@@ -278,7 +279,10 @@ impl Repair {
             (repair_moves self.old (VersionTold version)) (last_ask end p)) }
     {
         let key = tell(self.walk_on(Told::Version(version)), cells)?;
-        tell(self.walk_on(key), cells)
+        match self.phase {
+            RepairPhase::Walking => tell(self.walk_on(key), cells),
+            _ => Ok(key),
+        }
     }
 
     /// Takes all that is left of a look at once.

@@ -4,7 +4,7 @@ ghost use Rattle.pc_plan.specs.Asking.{asked};
 
 use crate::repair::{Aim, Repair};
 use pc_model::{Call, Reply, Settle};
-use pc_plan::{Change, Plan, Told, Turn};
+use pc_plan::{Change, End, Plan, StillCells, Told, Turn};
 use std::marker::Model;
 
 /// The plan of the repair of the least key from a number up, which may be any. It answers `None` where there is no
@@ -55,6 +55,16 @@ impl Plan for AvlRepairFrom {
     #[inline(always)]
     fn step(&mut self, told: Told, change: &mut Change) -> Turn {
         self.repair.step(told, change)
+    }
+
+    #[inline(always)]
+    fn stride<C: StillCells>(
+        &mut self,
+        told: Told,
+        cells: &C,
+        change: &mut Change,
+    ) -> Result<Told, End> {
+        self.repair.stride(told, cells, change)
     }
 
     fn entry(_call: u64) -> Option<Call> {

@@ -4,7 +4,7 @@ ghost use Rattle.pc_plan.specs.Asking.{asked};
 
 use crate::repair::{Aim, Repair};
 use pc_model::{Call, Reply, Settle};
-use pc_plan::{Change, Plan, Told, Turn};
+use pc_plan::{Change, End, Plan, StillCells, Told, Turn};
 use std::marker::Model;
 
 /// The plan of the repair of a key, any number. It answers `None` where the key isn't there or its node is in
@@ -54,7 +54,17 @@ impl Plan for AvlRepair {
 
     #[inline(always)]
     fn step(&mut self, told: Told, change: &mut Change) -> Turn {
-        self.repair.step_to_key(told, change)
+        self.repair.step(told, change)
+    }
+
+    #[inline(always)]
+    fn stride<C: StillCells>(
+        &mut self,
+        told: Told,
+        cells: &C,
+        change: &mut Change,
+    ) -> Result<Told, End> {
+        self.repair.stride(told, cells, change)
     }
 
     fn entry(_call: u64) -> Option<Call> {
