@@ -1,4 +1,5 @@
 pub mod NoSlots
+pub mod RemoveDescents
 pub mod RepairSlots
 pub mod RepairStrides
 mod Seeking

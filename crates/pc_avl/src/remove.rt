@@ -6,13 +6,17 @@ ghost use Rattle.std.specs.Prelude.{◌≡◌, ◌<◌, length};
 ghost use Rattle.pc_model.specs.Cells.{node_at};
 ghost use Rattle.pc_plan.specs.Asking.{asked};
 ghost use Rattle.pc_plan.specs.NodeChanges.{planned_by};
-ghost use Rattle.pc_avl.specs.Removes.{heir_of, heir_link, with_heir, remove_walks, remove_told, remove_reads};
+ghost use Rattle.pc_plan.specs.Turns.{CanGoOn, GoesOn};
+ghost use Rattle.pc_avl.specs.Removes.{remove_moves, heir_of, heir_link, with_heir, remove_walks, remove_told, remove_reads};
 ghost use Rattle.pc_avl.specs.Removes.{remove_gives_up, remove_ends, unlinked, lifted, removal, choosing};
 ghost use Rattle.pc_avl.specs.Removes.{following, going_below, visiting_heir, lifting};
 
 use pc_bst::charge_key_of;
 use pc_model::{Call, Field, Reply, Settle, Side};
-use pc_plan::{Above, Change, Plan, Step, To, Told, Turn, Walk, leads_back, node_of};
+use pc_plan::{
+    Above, Change, Descent, End, Plan, Step, StillCells, To, Told, Turn, Walk, leads_back, node_of,
+    tell,
+};
 
 /// The node that leaves.
 #[derive(Clone, Copy)]
@@ -150,7 +154,7 @@ impl Plan for AvlRemove {
     ghost use Rattle.pc_model.specs.Trees.{balanced};
     ghost use Rattle.pc_model.specs.TreeForms.{tree_form};
     ghost use Rattle.pc_plan.specs.Terms.{map_terms};
-    ghost use Rattle.pc_avl.specs.Removes.{remove_of, remove_moves};
+    ghost use Rattle.pc_avl.specs.Removes.{remove_of};
     ghost use Rattle.pc_avl.specs.RemoveLaws.{remove_laws};
 
     type Call = u64;
@@ -194,6 +198,17 @@ impl Plan for AvlRemove {
             Told::Version(version) => self.arrive(version),
             Told::Number(number) => self.read_on(number, change),
         }
+    }
+
+    #[inline(always)]
+    fn stride<C: StillCells>(
+        &mut self,
+        told: Told,
+        cells: &C,
+        change: &mut Change,
+    ) -> Result<Told, End> {
+        let next = self.descend(told, cells);
+        tell(self.step(next, change), cells)
     }
 
     fn entry(call: u64) -> Option<Call> {
@@ -241,6 +256,23 @@ impl AvlRemove {
             }
             _ => self.give_up(),
         }
+    }
+
+    /// Lets the walk pass nodes, where it is on its way down, and finds what it is to be told then.
+    #[inline(always)]
+    fn descend<C: StillCells>(&mut self, told: Told, cells: &C) -> Told
+        requires { CanGoOn remove_moves (C.slots cells.now) (C.cells cells.now) (remove_moves self.old told) }
+        ensures { GoesOn remove_moves (C.cells cells.now) (remove_moves self.old told) 0 self.new result }
+    {
+        let RemovePhase::Walking = self.phase else {
+            return told;
+        };
+        let Some(descent) = Descent::of(self.walk, self.above_key, told, cells) else {
+            return told;
+        };
+        self.walk = descent.walk;
+        self.above_key = descent.above_key;
+        Told::Version(descent.version)
     }
 
     /// Tells the walk something, and asks for what it does next.

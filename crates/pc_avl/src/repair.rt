@@ -22,8 +22,10 @@ ghost use Rattle.pc_avl.specs.Looks.{look_step};
 use crate::look::{Look, LookStep, Looked, MISSING};
 use crate::repair_change::{height_over, opposite};
 use pc_model::{Field, Reply, Side};
-use pc_plan::{Above, Change, Descent, End, SENTINEL, Step, StillCells, Told, Turn, Walk};
-use pc_plan::{leads_back, node_of, tell};
+use pc_plan::{
+    Above, Change, Descent, End, SENTINEL, Step, StillCells, Told, Turn, Walk, leads_back, node_of,
+    tell,
+};
 
 /// What a repair is of.
 #[derive(Clone, Copy)]

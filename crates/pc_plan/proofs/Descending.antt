@@ -4,7 +4,10 @@ use Rattle.std.proofs.Common.{refl, sym, subst, arith}
 use Rattle.std.proofs.lemmas.Bool.Decides.{nat_tests}
 use Rattle.pc_model.specs.declared.cell.Field.{Field}
 use Rattle.pc_model.specs.declared.cell.Field.TheVariants.{Version as VersionField, Key as KeyField, Left as LeftLink}
-use Rattle.pc_model.specs.declared.cell.Side.TheVariants.{Left}
+use Rattle.pc_model.specs.declared.cell.Field.TheVariants.{Right as RightLink}
+use Rattle.pc_model.specs.declared.cell.Side.{Side}
+use Rattle.pc_model.specs.declared.cell.Side.TheVariants.{Left, Right}
+use Rattle.pc_model.specs.Sides.{link_of}
 use Rattle.pc_model.specs.Cells.{Cells, IsNode, node_at}
 use Rattle.pc_model.specs.Debts.{has}
 use Rattle.pc_plan.specs.declared.descent.Descent.{Descent}
@@ -18,7 +21,7 @@ use Rattle.pc_plan.specs.declared.walk.Awaited.TheVariants.{Link}
 use Rattle.pc_plan.specs.declared.walk.Step.{Step}
 use Rattle.pc_plan.specs.declared.walk.Step.TheVariants.{Visit, Read, Here}
 use Rattle.pc_plan.specs.declared.walk.Walk.{Walk}
-use Rattle.pc_plan.specs.Descents.{entered, entering, passed, passing, passing_to, way_down, way_down_at, Passes}
+use Rattle.pc_plan.specs.Descents.{on_side, entered, entering, passed, passing, passing_to, way_down, way_down_at, Passes}
 use Rattle.pc_plan.specs.Descents.{HasDescended, DescendsByNodes}
 use Rattle.pc_plan.specs.Turns.{CanGoOn, CanBeTold, GoesOn}
 use Rattle.pc_plan.specs.Walks.{at_version, awaiting, on_way, way, walk_step}
@@ -65,6 +68,11 @@ passed_by c d e false (Some n) other link h =
 is_passed : (c : Cells) (d e : Descent) → passing c d ≡ Some e → (n : ℕ) × IsPassed c d e n
 is_passed c d e h = passed_by c d e (c d.walk.node KeyField == d.walk.key)
     (node_at (c d.walk.node (way d.walk (c d.walk.node KeyField)))) refl refl h
+
+-- the link on a side is one of the two
+pub on_side_is : (c : Cells) (n : ℕ) (s : Side) → on_side s (c n LeftLink) (c n RightLink) ≡ c n (link_of s)
+on_side_is c n Left = refl
+on_side_is c n Right = refl
 
 -- on its way down a walk visits another node than the sentinel
 pub record IsOnWay (d : Descent) : Type 0 where

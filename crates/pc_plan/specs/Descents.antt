@@ -1,7 +1,8 @@
 -- A walk that passes nodes on cells that stand still, a node at once.
 use Rattle.std.specs.Prelude.{◌≡◌, ℕ, zero, suc, ◌==◌, if◌then◌else◌, [], ◌∷◌, Option, Some, None}
 use Rattle.pc_model.specs.declared.cell.Field.TheVariants.{Version as VersionField, Key as KeyField, Left as LeftLink}
-use Rattle.pc_model.specs.declared.cell.Side.TheVariants.{Left}
+use Rattle.pc_model.specs.declared.cell.Side.{Side}
+use Rattle.pc_model.specs.declared.cell.Side.TheVariants.{Left, Right}
 use Rattle.pc_model.specs.Cells.{Cells, IsNode, node_at}
 use Rattle.pc_model.specs.Debts.{has}
 use Rattle.pc_plan.specs.declared.descent.Descent.{Descent}
@@ -12,6 +13,10 @@ use Rattle.pc_plan.specs.declared.walk.Awaited.{Awaited}
 use Rattle.pc_plan.specs.declared.walk.Awaited.TheVariants.{Begin as ToBegin, Version as AVersion}
 use Rattle.pc_plan.specs.declared.walk.Walk.{Walk}
 use Rattle.pc_plan.specs.Walks.{side_toward, way}
+
+abbrev pub on_side : Side → ℕ → ℕ → ℕ
+on_side Left left right = left
+on_side Right left right = right
 
 -- a walk at its visit of a node, which it came to from the one above
 abbrev pub visit_below : Cells → ℕ → ℕ → Above → ℕ → Descent

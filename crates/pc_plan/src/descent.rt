@@ -2,7 +2,7 @@
 ghost use Rattle.std.specs.Prelude.{◌≡◌, ℕ, Some, IfSome};
 ghost use Rattle.pc_model.specs.Cells.{IsNode, node_at};
 ghost use Rattle.pc_model.specs.declared.cell.Field.TheVariants.{Left as LeftLink};
-ghost use Rattle.pc_plan.specs.Descents.{visit_below, passing, entering, way_down, Passes};
+ghost use Rattle.pc_plan.specs.Descents.{on_side, visit_below, passing, entering, way_down, Passes};
 ghost use Rattle.pc_plan.specs.Descents.{HasDescended, DescendsByNodes};
 
 use crate::plan::Told;
@@ -22,6 +22,17 @@ pub struct Descent {
     pub version: u64,
     /// The key of the node above.
     pub above_key: u64,
+}
+
+/// The one of two links on a side.
+#[inline(always)]
+fn on_side(side: Side, left: u64, right: u64) -> u64
+    ensures { result ≡ on_side side left right }
+{
+    match side {
+        Side::Left => left,
+        Side::Right => right,
+    }
 }
 
 impl Descent {
@@ -111,7 +122,8 @@ impl Descent {
         descent
     }
 
-    /// Passes the node that the walk visits, where it has another key and its link leads on.
+    /// Passes the node that the walk visits, where it has another key and its link leads on. Both links are read and
+    /// tested, so that neither waits for the key.
     #[inline(always)]
     fn pass<C: StillCells>(&self, cells: &C) -> Option<Descent>
         requires node { IsNode (C.slots cells.now) self.now.walk.node }
@@ -124,8 +136,15 @@ impl Descent {
         if key == self.walk.key {
             return None;
         }
+        let (left, right) = (
+            cells.word(node, Field::Left),
+            cells.word(node, Field::Right),
+        );
+        if left == 0 && right == 0 {
+            return None;
+        }
         let side = side_toward(self.walk.key, key);
-        let below = node_of(cells.word(node, side.link()))?;
+        let below = node_of(on_side(side, left, right))?;
         if leads_back(below, &[node, SENTINEL]) {
             return None;
         }
