@@ -306,7 +306,8 @@ impl Repair {
         let Some(look) = self.look.at_once(told, cells) else {
             return tell(self.step(told, change), cells);
         };
-        self.look = look;
+        self.look.seen = look.seen;
+        self.look.unread = look.unread;
         tell(self.keep(place, change), cells)
     }
 
@@ -440,23 +441,36 @@ impl Repair {
     fn keep(&mut self, place: Place, change: &mut Change) -> Turn
         ensures { (self.new, asked result change.new) ≡ after_look place (placed self.old place self.old.look.seen) }
     {
-        self.put(place, self.look.seen);
-        self.go_on(place, change)
-    }
-
-    /// Goes on once the node for a place stands there.
-    #[inline(always)]
-    fn go_on(&mut self, place: Place, change: &mut Change) -> Turn
-        ensures { (self.new, asked result change.new) ≡ after_look place self.old }
-    {
+        let seen = self.look.seen;
         match place {
-            Place::Node => self.seek_left(change),
-            Place::Left => self.seek_right(change),
-            Place::Right => self.weigh(change),
-            Place::Outer => self.seek_inner(change),
-            Place::Inner => self.turn(change),
-            Place::Near => self.seek_far(change),
-            Place::Far => self.turn_twice(change),
+            Place::Node => {
+                self.node = seen;
+                self.seek_left(change)
+            }
+            Place::Left => {
+                self.left = seen;
+                self.seek_right(change)
+            }
+            Place::Right => {
+                self.right = seen;
+                self.weigh(change)
+            }
+            Place::Outer => {
+                self.outer = seen;
+                self.seek_inner(change)
+            }
+            Place::Inner => {
+                self.inner = seen;
+                self.turn(change)
+            }
+            Place::Near => {
+                self.near = seen;
+                self.seek_far(change)
+            }
+            Place::Far => {
+                self.far = seen;
+                self.turn_twice(change)
+            }
         }
     }
 
