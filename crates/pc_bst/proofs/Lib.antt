@@ -1,3 +1,4 @@
 pub mod Ends
 pub mod NoSlots
 pub mod PutDescents
+pub mod RemoveDescents

@@ -6,10 +6,14 @@ ghost use Rattle.pc_model.specs.Cells.{node_at};
 ghost use Rattle.pc_plan.specs.Asking.{asked};
 ghost use Rattle.pc_plan.specs.NodeChanges.{planned_by};
 ghost use Rattle.pc_bst.specs.Removes.{remove_walked, remove_reads, remove_gives_up, remove_ends, unlinked, lifted};
-ghost use Rattle.pc_bst.specs.Removes.{chosen, following, going_below};
+ghost use Rattle.pc_plan.specs.Turns.{CanGoOn, GoesOn};
+ghost use Rattle.pc_bst.specs.Removes.{remove_moves, chosen, following, going_below};
 
 use pc_model::{Call, Field, Reply, Settle, Side};
-use pc_plan::{Above, Change, Plan, Step, To, Told, Turn, Walk, leads_back, node_of};
+use pc_plan::{
+    Above, Change, Descent, End, Plan, Step, StillCells, To, Told, Turn, Walk, leads_back, node_of,
+    tell,
+};
 
 /// Where a remove is: on its walk, at its end, or what it waits for.
 #[derive(Clone, Copy)]
@@ -64,7 +68,7 @@ impl Plan for BstRemove {
     ghost use Rattle.pc_model.specs.Trees.{plain};
     ghost use Rattle.pc_model.specs.TreeForms.{tree_form};
     ghost use Rattle.pc_plan.specs.Terms.{map_terms};
-    ghost use Rattle.pc_bst.specs.Removes.{remove_of, remove_moves};
+    ghost use Rattle.pc_bst.specs.Removes.{remove_of};
     ghost use Rattle.pc_bst.specs.RemoveLaws.{remove_laws};
 
     type Call = u64;
@@ -133,6 +137,17 @@ impl Plan for BstRemove {
         }
     }
 
+    #[inline(always)]
+    fn stride<C: StillCells>(
+        &mut self,
+        told: Told,
+        cells: &C,
+        change: &mut Change,
+    ) -> Result<Told, End> {
+        let next = self.descend(told, cells);
+        tell(self.step(next, change), cells)
+    }
+
     fn entry(call: u64) -> Option<Call> {
         Some(Call::Remove { key: call })
     }
@@ -145,6 +160,22 @@ impl Plan for BstRemove {
 impl BstRemove {
     ghost use Rattle.pc_plan.specs.Planned.{Planned};
     ghost use Rattle.pc_plan.specs.Walks.{walk_step};
+
+    /// Lets the walk pass nodes, where it is on its way down, and finds what it is to be told then.
+    #[inline(always)]
+    fn descend<C: StillCells>(&mut self, told: Told, cells: &C) -> Told
+        requires { CanGoOn remove_moves (C.slots cells.now) (C.cells cells.now) (remove_moves self.old told) }
+        ensures { GoesOn remove_moves (C.cells cells.now) (remove_moves self.old told) 0 self.new result }
+    {
+        let RemovePhase::Walking = self.phase else {
+            return told;
+        };
+        let Some(descent) = Descent::of(self.walk, 0, told, cells) else {
+            return told;
+        };
+        self.walk = descent.walk;
+        Told::Version(descent.version)
+    }
 
     /// Tells the walk something, and asks for what it does next.
     #[inline]
