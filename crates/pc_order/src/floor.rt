@@ -50,6 +50,7 @@ impl Plan for FloorPlan {
         }
     }
 
+    #[inline(always)]
     fn step(&mut self, told: Told, _change: &mut Change) -> Turn {
         self.search.step(told)
     }
