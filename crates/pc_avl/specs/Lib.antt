@@ -8,6 +8,7 @@ pub mod RemoveLaws
 pub mod Removes
 pub mod RepairCases
 pub mod RepairChanges
+pub mod RepairBelow
 pub mod RepairCourses
 pub mod RepairEnds
 pub mod RepairExchanges

@@ -40,7 +40,8 @@ use Rattle.pc_avl.specs.Repairs.{nowhere, repair_of, repair_moves, answers, met,
 use Rattle.pc_avl.specs.Repairs.{keeps_below, passes, seeks_left}
 use Rattle.pc_avl.specs.RepairLooks.{node_of_looked, IsSeen, AreSeen, unseen_not_met, looked_past, seen_here}
 use Rattle.pc_avl.specs.RepairLooks.{all_seen_still, IsDue, done_at, named, more}
-use Rattle.pc_avl.specs.RepairCourses.{ChildDue, Goes as GoesOn, MendsRight, seeks_left_goes}
+use Rattle.pc_avl.specs.RepairBelow.{ChildDue}
+use Rattle.pc_avl.specs.RepairCourses.{Goes as GoesOn, MendsRight, seeks_left_goes}
 use Rattle.pc_avl.specs.RepairWalks.{due_of, due_on, due_within, few_due, due_in, few_due_in, due_unseen, child_unseen}
 use Rattle.pc_avl.specs.RepairWalks.{IsNotOf, missing_not_of}
 use Rattle.pc_avl.specs.RepairWalks.{on_outer, on_inner, on_near, on_far, all_due, few_all_due}

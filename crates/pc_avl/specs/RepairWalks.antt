@@ -37,7 +37,8 @@ use Rattle.pc_avl.specs.declared.repair.RepairPhase.TheVariants.{Looking}
 use Rattle.pc_avl.specs.Looks.{missing, looked_in}
 use Rattle.pc_avl.specs.Repairs.{nowhere, repair_of, repair_moves, walked, walks_on, arrives, placed}
 use Rattle.pc_avl.specs.RepairLooks.{IsDue, anywhere, done_at, reads_on}
-use Rattle.pc_avl.specs.RepairCourses.{tree_on, tree_on_in, InnerDue, ChildDue, Goes as GoesOn, MendsRight, seeks_left_goes}
+use Rattle.pc_avl.specs.RepairBelow.{tree_on, tree_on_in, InnerDue, ChildDue}
+use Rattle.pc_avl.specs.RepairCourses.{Goes as GoesOn, MendsRight, seeks_left_goes}
 
 -- The turns that are due where nothing was visited
 
