@@ -1,6 +1,1 @@
-mod WordRows
-pub mod Shapes
-pub mod Sharing
-pub mod Steps
-pub mod Taking
-pub mod Turns
+pub mod Inputs

@@ -1,7 +1,1 @@
-pub mod Alone
-pub mod Reading
-pub mod Runs
 pub mod Serving
-pub mod Shares
-pub mod Together
-pub mod Words

@@ -20,8 +20,8 @@ use Rattle.pc_text.specs.Printed.{printed_run}
 use Rattle.pc_text.specs.Script.{script_of}
 use Rattle.pc_text.specs.ScriptValue.{ScriptValue}
 use Rattle.pc_text.specs.declared.shape.ShapeLine.{ShapeLine}
-use Rattle.pathmap.specs.declared.words.Options.{Options}
-use Rattle.pathmap.specs.Runs.{IsRunOf, IsShapeIfAsked}
+use Rattle.pc_run.specs.declared.words.Options.{Options}
+use Rattle.pc_run.specs.Runs.{IsRunOf, IsShapeIfAsked}
 
 -- the bytes are no longer than an input may be, and spell this script
 abbrev pub SpellsScript : List ℕ → ScriptValue → Type 0

@@ -4,12 +4,11 @@ ghost use Rattle.std.specs.Prelude.{◌≤◌};
 
 use super::tests::{all_hold, source_of, strings_of};
 use super::*;
-use crate::run::{Run, run_script};
-use crate::words::Options;
 use pc_edge::{Gate, MemorySink, OpenGate};
 use pc_locked::TreeKind;
 use pc_model::{Entry, replay};
 use pc_pool::{Worker, run_clients};
+use pc_run::{Options, Run, run_script};
 use pc_text::{MOST_BYTES, Script, read_script};
 use std::sync::Wait;
 use std::sync::atomic::{AtomicU64, Ordering};

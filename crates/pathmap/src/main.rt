@@ -6,13 +6,7 @@ ghost use Rattle.std.specs.Prelude.{◌≡◌, ◌≢◌};
 ghost use Rattle.pathmap.specs.Serving.{WritesFault};
 ghost use Rattle.pc_text.specs.Fault.{status_of};
 
-mod alone;
-mod reading;
-mod run;
 mod serve;
-mod shares;
-mod together;
-mod words;
 
 use pc_edge::{OpenGate, Sink, StdSink, StdSource};
 use pc_text::Fault;

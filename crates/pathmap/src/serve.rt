@@ -1,9 +1,9 @@
 //! The top call: it reads a script, runs it, and prints the run or the line of a fault.
 ghost use Rattle.std.specs.Prelude.{◌≡◌, ◌≢◌, ◌+◌, ◌≤◌, false, length, IfOk, IfErr};
 ghost use Rattle.std.specs.Prelude.{IfSome, IsSome, IsNone};
-ghost use Rattle.pathmap.specs.Words.{options_of};
-ghost use Rattle.pathmap.specs.Reading.{TakesAtMost};
-ghost use Rattle.pathmap.specs.Runs.{lines_of};
+ghost use Rattle.pc_run.specs.Words.{options_of};
+ghost use Rattle.pc_run.specs.Reading.{TakesAtMost};
+ghost use Rattle.pc_run.specs.Runs.{lines_of};
 ghost use Rattle.pathmap.specs.Serving.{PrintsRun, PrintsFront, HasRunAll, RunsBytes, bad_script};
 ghost use Rattle.pathmap.specs.Serving.{EndsInFault, IsCauseOf, IsBytesFault, WritesFault};
 ghost use Rattle.pathmap.specs.Serving.{IsTooLong, IsRefused, EndsUnlessMemory, EndsUnlessStopped};
@@ -11,10 +11,8 @@ ghost use Rattle.pc_edge.specs.Faults.{HasRisen};
 ghost use Rattle.pc_text.specs.Fault.{status_of};
 ghost use Rattle.pc_text.specs.Printed.{listed};
 
-use crate::reading::read_all;
-use crate::run::{Run, run_script};
-use crate::words::{Options, options_of};
 use pc_edge::{Failed, Gate, Sink, Source};
+use pc_run::{Options, Run, options_of, read_all, run_script};
 use pc_text::{Extras, Fault, MOST_BYTES, print_fault, print_run, read_script};
 use std::alloc::Global;
 use std::sync::Wait;

@@ -2,8 +2,8 @@
 use Rattle.std.proofs.Common.{ℕ, ◌≤◌, List, length, sym, ap, ◌∙◌, subst}
 use Rattle.pc_text.specs.declared.limits.TheConstants.{MOST_BYTES}
 use Rattle.pathmap.specs.Serving.{RunsBytes, SpellsScript, IsRefused}
-use Rattle.pathmap.specs.Runs.{lines_of}
-use Rattle.pathmap.proofs.Turns.{of_input}
+use Rattle.pc_run.specs.Runs.{lines_of}
+use Rattle.pathmap.proofs.Inputs.{of_input}
 use Rattle.pathmap.proofs.serve.run_input.Goals as goal
 
 pub returns-clause-ok : goal.returns-clause-ok

@@ -1,8 +1,0 @@
--- So far the room is that which the first lists want.
-use Rattle.std.proofs.Common.{◌≡◌, take}
-use Rattle.pathmap.specs.Shares.{calls_in, lists_of, shares_of}
-use Rattle.pathmap.proofs.shares.room_for.Given as goal
-
-abbrev pub invariant-loop-calls : goal.invariant-loop-calls
-invariant-loop-calls l = (l.room.slots ≡ shares_of (take l.calls-index (lists_of l.lists)))
-    × (l.room.calls ≡ calls_in (take l.calls-index (lists_of l.lists)))
