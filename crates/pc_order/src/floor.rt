@@ -50,7 +50,6 @@ impl Plan for FloorPlan {
         }
     }
 
-    #[inline(always)]
     fn step(&mut self, told: Told, _change: &mut Change) -> Turn {
         self.search.step(told)
     }

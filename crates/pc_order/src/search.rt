@@ -73,7 +73,7 @@ impl Search {
     }
 
     /// Tells the search something, and answers what it asks next. It asks for no exchange.
-    #[inline(always)]
+    #[inline]
     pub fn step(&mut self, told: Told) -> Turn
         ensures { (p : Planned) → (self.new, asked result p) ≡ search_moves self.old told }
     {
@@ -85,7 +85,7 @@ impl Search {
     }
 
     /// Tells the walk something, and asks for what it does next.
-    #[inline(always)]
+    #[inline]
     fn walk_on(&mut self, told: Told) -> Turn
         ensures { (p : Planned) → (self.new, asked result p) ≡ walked_on self.old told }
     {

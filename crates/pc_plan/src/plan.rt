@@ -11,7 +11,7 @@ ghost use Rattle.pc_plan.specs.Terms.{Terms};
 ghost use Rattle.pc_plan.specs.Turns.{CanGoOn, GoesOn, ComesFrom, last_ask};
 
 use crate::change::Change;
-use crate::still::{StillCells, tell};
+use crate::still::StillCells;
 use pc_model::{Call, Field, Reply, Settle};
 
 /// What a plan asks next.
@@ -104,7 +104,8 @@ pub trait Plan: Drop {
     }
 
     /// Takes some turns on cells that stand still, at least one: the plan is told this, and then what stands in
-    /// the cells. Answers what it is to be told next, or how it has ended.
+    /// the cells. Answers what it is to be told next, or how it has ended. The two links have arms of their own: the
+    /// machine then goes on along the one that it expects, and doesn't wait for the key first.
     #[inline(always)]
     fn stride<C: StillCells>(
         &mut self,
@@ -117,7 +118,14 @@ pub trait Plan: Drop {
         ensures ends { IfErr result (λ end.
             ComesFrom moves (C.cells cells.now) (moves self.old told) (last_ask end change.new)) }
     {
-        tell(self.step(told, change), cells)
+        match self.step(told, change) {
+            Turn::Visit(node) => Ok(Told::Version(cells.word(node, Field::Version))),
+            Turn::Read(node, Field::Left) => Ok(Told::Number(cells.word(node, Field::Left))),
+            Turn::Read(node, Field::Right) => Ok(Told::Number(cells.word(node, Field::Right))),
+            Turn::Read(node, field) => Ok(Told::Number(cells.word(node, field))),
+            Turn::Change => Err(End::Exchange),
+            Turn::Answer(reply) => Err(End::Answer(reply)),
+        }
     }
 
     /// The call that an entry of a history has for this plan.

@@ -23,8 +23,7 @@ pub trait StillCells {
         ensures { result ≡ cells self.now node field };
 }
 
-/// What a plan is told of cells for what it asks by a turn, or how it has ended. The two links have arms of their
-/// own: the machine then goes on along the one that it expects, and doesn't wait for the key first.
+/// What a plan is told of cells for what it asks by a turn, or how it has ended.
 #[inline(always)]
 pub fn tell<C: StillCells>(turn: Turn, cells: &C) -> Result<Told, End>
     requires { (p : Planned) × CanBeTold (C.slots cells.now) (C.cells cells.now) (asked turn p) }
@@ -33,8 +32,6 @@ pub fn tell<C: StillCells>(turn: Turn, cells: &C) -> Result<Told, End>
 {
     match turn {
         Turn::Visit(node) => Ok(Told::Version(cells.word(node, Field::Version))),
-        Turn::Read(node, Field::Left) => Ok(Told::Number(cells.word(node, Field::Left))),
-        Turn::Read(node, Field::Right) => Ok(Told::Number(cells.word(node, Field::Right))),
         Turn::Read(node, field) => Ok(Told::Number(cells.word(node, field))),
         Turn::Change => Err(End::Exchange),
         Turn::Answer(reply) => Err(End::Answer(reply)),
