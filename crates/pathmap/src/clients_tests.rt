@@ -241,7 +241,10 @@ fn the_gate_is_called_before_and_after_each_command(rt: HostRuntime) {
     let alone = gate_calls(&rt, rt.alloc(), "put 1 1\nget 1\nremove 1\n");
     let both = gate_calls(&rt, rt.alloc(), "get 1\nclient 2\nput 1 1\nget 2\n");
     let none = gate_calls(&rt, rt.alloc(), "get 1\nget\n");
-    assert_eq!(rt; (alone, both, none), (Ok((6, 0, 0)), Ok((2, 4, 0)), Ok((0, 0, 0))));
+    assert_eq!(rt;
+        (alone, both, none),
+        (Ok((6, 0, 0)), Ok((2, 4, 0)), Ok((0, 0, 0)))
+    );
 }
 
 const TWO_AT_ONE_KEY: &str = "client 1\nput 1 1\nget 1\nclient 2\nput 1 2\nget 1\n";
