@@ -4,7 +4,7 @@ ghost use Rattle.pc_plan.specs.Asking.{asked};
 
 use crate::search::Search;
 use pc_model::{Call, Reply, Settle, Side};
-use pc_plan::{Change, Plan, Told, Turn};
+use pc_plan::{Change, End, Plan, StillCells, Told, Turn};
 use std::marker::Model;
 
 /// The plan of a floor.
@@ -52,6 +52,16 @@ impl Plan for FloorPlan {
 
     fn step(&mut self, told: Told, _change: &mut Change) -> Turn {
         self.search.step(told)
+    }
+
+    #[inline(always)]
+    fn stride<C: StillCells>(
+        &mut self,
+        told: Told,
+        cells: &C,
+        change: &mut Change,
+    ) -> Result<Told, End> {
+        self.search.stride(told, cells, change)
     }
 
     fn entry(call: u64) -> Option<Call> {

@@ -1,14 +1,15 @@
 //! The search on one side of a key: the walk to the key, which remembers each pair that it meets on that
 //! side. The last one is the nearest. The plans of ceil and floor are this machine.
-ghost use Rattle.std.specs.Prelude.{◌≡◌};
+ghost use Rattle.std.specs.Prelude.{◌≡◌, IfOk, IfErr};
 ghost use Rattle.pc_model.specs.Map.{pair_or_nothing};
 ghost use Rattle.pc_plan.specs.Asking.{asked};
 ghost use Rattle.pc_plan.specs.Planned.{Planned};
+ghost use Rattle.pc_plan.specs.Turns.{CanGoOn, GoesOn, ComesFrom, last_ask};
 ghost use Rattle.pc_order.specs.Searches.{is_on, search_of, search_moves};
 ghost use Rattle.pc_order.specs.Searches.{walked_on, reading_value, remembering, ended};
 
 use pc_model::{Field, Reply, Side};
-use pc_plan::{Step, Told, Turn, Walk};
+use pc_plan::{Change, End, Step, StillCells, Told, Turn, Walk, tell};
 
 /// Where a search is.
 #[derive(Clone, Copy)]
@@ -82,6 +83,23 @@ impl Search {
             (SearchPhase::Reading, Told::Number(value)) => self.remember(value),
             _ => self.end(Reply::None),
         }
+    }
+
+    /// Takes a turn on cells that stand still.
+    #[inline(always)]
+    pub fn stride<C: StillCells>(
+        &mut self,
+        told: Told,
+        cells: &C,
+        _change: &mut Change,
+    ) -> Result<Told, End>
+        requires { CanGoOn search_moves (C.slots cells.now) (C.cells cells.now) (search_moves self.old told) }
+        ensures goes_on { IfOk result
+            (GoesOn search_moves (C.cells cells.now) (search_moves self.old told) 1 self.new) }
+        ensures ends { IfErr result (λ end.
+            ComesFrom search_moves (C.cells cells.now) (search_moves self.old told) (last_ask end _change.new)) }
+    {
+        tell(self.step(told), cells)
     }
 
     /// Tells the walk something, and asks for what it does next.
