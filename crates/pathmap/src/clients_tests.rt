@@ -1,6 +1,5 @@
 //! What several clients do: they are beside each other, what they print is one of the histories that there may be, and
 //! each call of each stands there once.
-ghost use Rattle.std.specs.Prelude.{◌≤◌};
 
 use super::tests::{all_hold, source_of, strings_of};
 use super::*;
@@ -9,7 +8,7 @@ use pc_locked::TreeKind;
 use pc_model::{Entry, replay};
 use pc_pool::{Worker, run_clients};
 use pc_run::{Options, Run, run_script};
-use pc_text::{MOST_BYTES, Script, read_script};
+use pc_text::{MOST_BYTES, MOST_CLIENTS, Script, read_script};
 use std::sync::Wait;
 use std::sync::atomic::{AtomicU64, Ordering};
 use std::thread::Threads;
@@ -18,6 +17,16 @@ const TREES: [TreeKind; 2] = [TreeKind::Bst, TreeKind::Avl];
 
 /// How often a client looks for the other before that is a miss.
 const MOST_LOOKS: u32 = 1_000_000_000;
+
+// Whether a count comes to this while it is looked at.
+fn sees(count: &AtomicU64, wanted: u64) -> bool {
+    for _ in 0..MOST_LOOKS {
+        if count.load(Ordering::SeqCst) == wanted {
+            return true;
+        }
+    }
+    false
+}
 
 /// Where clients 1 and 2 meet, at each of their first two commands.
 #[derive(Drop)]
@@ -48,20 +57,9 @@ impl Meeting {
             _ => (3, 2),
         };
         self.arrived[own].store(1, Ordering::SeqCst);
-        if !self.sees(other) {
+        if !sees(&self.arrived[other], 1) {
             self.misses.fetch_add(1, Ordering::SeqCst);
         }
-    }
-
-    fn sees(&self, place: usize) -> bool
-        requires { place ≤ 3 }
-    {
-        for _ in 0..MOST_LOOKS {
-            if self.arrived[place].load(Ordering::SeqCst) == 1 {
-                return true;
-            }
-        }
-        false
     }
 
     // How many were there, and how many didn't see the other.
@@ -82,10 +80,11 @@ impl Gate for Meeting {
     fn after(&self, _client: u32, _number: u32) {}
 }
 
-/// A worker of two commands that meets another in each of its steps.
+/// A worker of two commands that meets another in each of its steps, which it does between the gate's two calls.
 #[derive(Drop)]
 struct Meeter<'a> {
     meeting: &'a Meeting,
+    turnstile: &'a Turnstile,
     client: u32,
     done: u32,
 }
@@ -116,6 +115,10 @@ impl Worker for Meeter<'_> {
 
     #[tactic(auto, using(pc_pool::proofs::UpTo::up_to_next))]
     fn step<R: Threads + Wait + Sync>(&mut self, _rt: &R, number: u32) -> bool {
+        self.turnstile.expect(
+            self.client,
+            u64::from(number).wrapping_mul(2).wrapping_sub(1),
+        );
         self.meeting.meet(self.client, number);
         self.done = number;
         true
@@ -171,22 +174,30 @@ fn commands_of_two_clients_are_run_beside_each_other(rt: HostRuntime) {
 #[test]
 fn steps_of_two_workers_are_done_beside_each_other(rt: HostRuntime) {
     let meeting = Meeting::new();
+    let turnstile = Turnstile::new();
     let mut workers = [
         Meeter {
             meeting: &meeting,
+            turnstile: &turnstile,
             client: 1,
             done: 0,
         },
         Meeter {
             meeting: &meeting,
+            turnstile: &turnstile,
             client: 2,
             done: 0,
         },
     ];
-    run_clients(&rt, &mut workers, &OpenGate);
+    run_clients(&rt, &mut workers, &turnstile);
     assert_eq!(rt;
-        (workers[0].done, workers[1].done, meeting.count()),
-        (2, 2, (4, 0))
+        (
+            workers[0].done,
+            workers[1].done,
+            meeting.count(),
+            turnstile.count()
+        ),
+        (2, 2, (4, 0), (4, 4, 0))
     );
 }
 
@@ -199,12 +210,36 @@ struct Turnstile {
 }
 
 impl Turnstile {
+    fn new() -> Turnstile {
+        Turnstile {
+            calls: [AtomicU64::new(0), AtomicU64::new(0)],
+            faults: AtomicU64::new(0),
+        }
+    }
+
     // Notes a call of a client, which has to be the one after so many others of it.
     fn pass(&self, client: u32, calls: u64) {
         let place = if client == 1 { 0 } else { 1 };
         if self.calls[place].fetch_add(1, Ordering::SeqCst) != calls {
             self.faults.fetch_add(1, Ordering::SeqCst);
         }
+    }
+
+    // Looks whether there were so many calls of a client so far.
+    fn expect(&self, client: u32, calls: u64) {
+        let place = if client == 1 { 0 } else { 1 };
+        if self.calls[place].load(Ordering::SeqCst) != calls {
+            self.faults.fetch_add(1, Ordering::SeqCst);
+        }
+    }
+
+    // How many calls there were by each of two clients, and how many out of order.
+    fn count(&self) -> (u64, u64, u64) {
+        (
+            self.calls[0].load(Ordering::SeqCst),
+            self.calls[1].load(Ordering::SeqCst),
+            self.faults.load(Ordering::SeqCst),
+        )
     }
 }
 
@@ -224,16 +259,9 @@ fn gate_calls<R: Threads + Wait + Sync>(
     alloc: Global,
     input: &str,
 ) -> Result<(u64, u64, u64), AllocError> {
-    let gate = Turnstile {
-        calls: [AtomicU64::new(0), AtomicU64::new(0)],
-        faults: AtomicU64::new(0),
-    };
+    let gate = Turnstile::new();
     served(rt, alloc, &["pathmap"], input, &gate)?;
-    Ok((
-        gate.calls[0].load(Ordering::SeqCst),
-        gate.calls[1].load(Ordering::SeqCst),
-        gate.faults.load(Ordering::SeqCst),
-    ))
+    Ok(gate.count())
 }
 
 #[test]
@@ -245,6 +273,99 @@ fn the_gate_is_called_before_and_after_each_command(rt: HostRuntime) {
         (alone, both, none),
         (Ok((6, 0, 0)), Ok((2, 4, 0)), Ok((0, 0, 0)))
     );
+}
+
+/// A gate at which all clients are before any goes on. After a miss none waits any more.
+#[derive(Drop)]
+struct Gathering {
+    arrived: AtomicU64,
+    misses: AtomicU64,
+}
+
+impl Gate for Gathering {
+    fn before(&self, _client: u32, _number: u32) {
+        self.arrived.fetch_add(1, Ordering::SeqCst);
+        let is_missed = self.misses.load(Ordering::SeqCst) > 0;
+        if !is_missed && !sees(&self.arrived, u64::from(MOST_CLIENTS)) {
+            self.misses.fetch_add(1, Ordering::SeqCst);
+        }
+    }
+
+    fn after(&self, _client: u32, _number: u32) {}
+}
+
+// The script of the most clients with a command each.
+fn one_command_each(alloc: Global) -> Result<String, AllocError> {
+    let mut text = String::new(alloc);
+    for client in 1..=MOST_CLIENTS {
+        let lines = format!(in alloc; "client {client}\nget 1\n")?;
+        text.push_str(&lines)?;
+    }
+    Ok(text)
+}
+
+// The status of the most clients with a command each, and how many went on before all were there.
+fn gathered<R: Threads + Wait + Sync>(rt: &R, alloc: Global) -> Result<(u8, u64), AllocError> {
+    let gate = Gathering {
+        arrived: AtomicU64::new(0),
+        misses: AtomicU64::new(0),
+    };
+    let input = one_command_each(alloc)?;
+    let (status, _) = served(rt, alloc, &["pathmap"], &input, &gate)?;
+    Ok((status, gate.misses.load(Ordering::SeqCst)))
+}
+
+#[test]
+fn the_most_clients_are_all_beside_each_other(rt: HostRuntime) {
+    assert_eq!(rt; gathered(&rt, rt.alloc()), Ok((0, 0)));
+}
+
+/// A gate at which one of two clients waits at its first command until the other has ended its second.
+#[derive(Drop)]
+struct Holding {
+    held: u32,
+    ended: AtomicU64,
+    misses: AtomicU64,
+}
+
+impl Gate for Holding {
+    fn before(&self, client: u32, number: u32) {
+        if client == self.held && number == 1 && !sees(&self.ended, 1) {
+            self.misses.fetch_add(1, Ordering::SeqCst);
+        }
+    }
+
+    fn after(&self, client: u32, number: u32) {
+        if client != self.held && number == 2 {
+            self.ended.fetch_add(1, Ordering::SeqCst);
+        }
+    }
+}
+
+// How often the other client didn't end while this one was held at its first command, and how often it ended.
+fn overtaken<R: Threads + Wait + Sync>(
+    rt: &R,
+    alloc: Global,
+    held: u32,
+) -> Result<(u64, u64), AllocError> {
+    let gate = Holding {
+        held,
+        ended: AtomicU64::new(0),
+        misses: AtomicU64::new(0),
+    };
+    let input = "get 1\nget 1\nclient 2\nget 1\nget 1\n";
+    served(rt, alloc, &["pathmap"], input, &gate)?;
+    Ok((
+        gate.misses.load(Ordering::SeqCst),
+        gate.ended.load(Ordering::SeqCst),
+    ))
+}
+
+#[test]
+fn a_client_ends_while_another_is_at_its_first_command(rt: HostRuntime) {
+    let first = overtaken(&rt, rt.alloc(), 1);
+    let second = overtaken(&rt, rt.alloc(), 2);
+    assert_eq!(rt; (first, second), (Ok((0, 1)), Ok((0, 1))));
 }
 
 const TWO_AT_ONE_KEY: &str = "client 1\nput 1 1\nget 1\nclient 2\nput 1 2\nget 1\n";

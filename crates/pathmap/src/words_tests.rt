@@ -104,6 +104,21 @@ const SHAPES: &[Shaped] = &[
         "1 1.1 put 3 3 = new\n2 1.2 put 1 1 = new\n3 1.3 put 2 2 = new\nleft 3\n1 1\n2 2\n3 3\n\
          shape 2\n1 2 2 0\n2 1 1 0\n2 3 1 0\nend\n",
     ),
+    // With several clients too the debts of a put, and of a remove, are paid before its client's next command.
+    (
+        BALANCED_TREE,
+        "client 2\nput 1 1\nput 2 2\nput 3 3\nput 4 4\n",
+        2,
+        "1 2.1 put 1 1 = new\n2 2.2 put 2 2 = new\n3 2.3 put 3 3 = new\n4 2.4 put 4 4 = new\n\
+         left 4\n1 1\n2 2\n3 3\n4 4\nshape 3\n1 2 3 -1\n2 1 1 0\n2 3 2 -1\n3 4 1 0\nend\n",
+    ),
+    (
+        BALANCED_TREE,
+        "client 2\nput 1 1\nput 2 2\nput 3 3\nput 4 4\nremove 1\nremove 3\n",
+        2,
+        "1 2.1 put 1 1 = new\n2 2.2 put 2 2 = new\n3 2.3 put 3 3 = new\n4 2.4 put 4 4 = new\n\
+         5 2.5 remove 1 = 1\n6 2.6 remove 3 = 3\nleft 2\n2 2\n4 4\nshape 2\n1 4 2 1\n2 2 1 0\nend\n",
+    ),
 ];
 
 fn command_ends_so<R: Threads + Wait + Sync>(
