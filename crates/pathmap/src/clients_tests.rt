@@ -18,9 +18,12 @@ const TREES: [TreeKind; 2] = [TreeKind::Bst, TreeKind::Avl];
 /// How often a client looks for the other before that is a miss.
 const MOST_LOOKS: u32 = 1_000_000_000;
 
-// Whether a count comes to this while it is looked at.
-fn sees(count: &AtomicU64, wanted: u64) -> bool {
-    for _ in 0..MOST_LOOKS {
+/// How often it looks for 31 others, each of which may be looking as well.
+const LOOKS_FOR_ALL: u32 = 100_000_000;
+
+// Whether a count comes to this while it is looked at so often.
+fn sees(count: &AtomicU64, wanted: u64, looks: u32) -> bool {
+    for _ in 0..looks {
         if count.load(Ordering::SeqCst) == wanted {
             return true;
         }
@@ -57,7 +60,7 @@ impl Meeting {
             _ => (3, 2),
         };
         self.arrived[own].store(1, Ordering::SeqCst);
-        if !sees(&self.arrived[other], 1) {
+        if !sees(&self.arrived[other], 1, MOST_LOOKS) {
             self.misses.fetch_add(1, Ordering::SeqCst);
         }
     }
@@ -286,7 +289,7 @@ impl Gate for Gathering {
     fn before(&self, _client: u32, _number: u32) {
         self.arrived.fetch_add(1, Ordering::SeqCst);
         let is_missed = self.misses.load(Ordering::SeqCst) > 0;
-        if !is_missed && !sees(&self.arrived, u64::from(MOST_CLIENTS)) {
+        if !is_missed && !sees(&self.arrived, u64::from(MOST_CLIENTS), LOOKS_FOR_ALL) {
             self.misses.fetch_add(1, Ordering::SeqCst);
         }
     }
@@ -330,7 +333,7 @@ struct Holding {
 
 impl Gate for Holding {
     fn before(&self, client: u32, number: u32) {
-        if client == self.held && number == 1 && !sees(&self.ended, 1) {
+        if client == self.held && number == 1 && !sees(&self.ended, 1, MOST_LOOKS) {
             self.misses.fetch_add(1, Ordering::SeqCst);
         }
     }
