@@ -5,4 +5,7 @@ pub mod Readable
 pub mod Rows
 pub mod TextLemmas
 pub mod WordsLemmas
+pub mod Writing
 pub mod PlainLines
+pub mod MadeLemmas
+pub mod MadeRows

@@ -4,6 +4,7 @@ pub mod FaultLine
 pub mod FixesHistory
 pub mod LineText
 pub mod Lines
+pub mod Made
 pub mod Printed
 pub mod Script
 pub mod ScriptFacts

@@ -1,6 +1,6 @@
 -- The text of a run: a line for each call of the history, how many pairs are left, the pairs, where it is wanted
--- the shape of the tree, and the end.
-use Rattle.std.specs.Prelude.{ℕ, suc, ◌+◌, ℤ, pos, negsuc, Option, Some, None, List, [], ◌∷◌, ◌++◌, length, codes}
+-- the shape of the tree, and the end. Its summary: how many calls there were, and the end.
+use Rattle.std.specs.Prelude.{ℕ, Bool, true, false, suc, ◌+◌, ℤ, pos, negsuc, Option, Some, None, List, [], ◌∷◌, ◌++◌, length, codes}
 use Rattle.std.specs.Fmt.{decimal}
 use denote.Bor.{Bor}
 use Rattle.std.specs.Option.{option_map}
@@ -87,3 +87,16 @@ listed shape = option_map (λ nodes. nodes.now) shape
 abbrev pub printed_run : List Entry → List (ℕ × ℕ) → Option (List ShapeLine) → List ℕ
 printed_run history pairs shape =
     entry_lines 1 history ++ left_line (length pairs) ++ pair_lines pairs ++ shape_lines shape ++ end_line
+
+-- how many entries there are
+unfoldable pub count_line : ℕ → List ℕ
+count_line entries = decimal entries ++ codes " lines\n"
+
+-- the summary of a history
+abbrev pub printed_summary : List Entry → List ℕ
+printed_summary history = count_line (length history) ++ end_line
+
+-- what is printed of a run: its summary, where that is wanted, and else all of it
+abbrev pub run_text : Bool → List Entry → List (ℕ × ℕ) → Option (List ShapeLine) → List ℕ
+run_text true history pairs shape = printed_summary history
+run_text false history pairs shape = printed_run history pairs shape

@@ -1,27 +1,39 @@
 -- How a script writes its commands, and that what is written reads back.
-use Rattle.std.specs.Prelude.{codes, ℕ, ◌≡◌, ◌≤◌, All, List, [], ◌∷◌, ◌++◌, length, Ok}
+use Rattle.std.specs.Prelude.{codes, ℕ, ◌+◌, ◌≡◌, ◌≤◌, All, List, [], ◌∷◌, ◌++◌, length, Ok}
 use Rattle.std.specs.Fmt.{decimal}
+use Rattle.std.specs.Int.{IsInRange}
 use Rattle.pc_model.specs.declared.call.Call.{Call}
-use Rattle.pc_model.specs.declared.call.Call.TheVariants.{Put, Get, Remove, Ceil, Floor}
-use Rattle.pc_text.specs.declared.limits.TheConstants.{MOST_COMMANDS}
+use Rattle.pc_text.specs.declared.limits.TheConstants.{MOST_CLIENTS, MOST_COMMANDS}
+use Rattle.pc_text.specs.Printed.{call_text}
 use Rattle.pc_text.specs.Script.{script_of}
-use Rattle.pc_text.specs.ScriptFacts.{IsCallInRange}
+use Rattle.pc_text.specs.ScriptFacts.{AreFew, AreInRange, IsCallInRange}
 
--- a command is its word and its numbers, with a space (32) between two words
-abbrev pub line_of : Call → List ℕ
-line_of (Put key value) = codes "put " ++ (decimal key ++ 32 ∷ decimal value)
-line_of (Get key) = codes "get " ++ decimal key
-line_of (Remove key) = codes "remove " ++ decimal key
-line_of (Ceil key) = codes "ceil " ++ decimal key
-line_of (Floor key) = codes "floor " ++ decimal key
-
--- a line feed (10) ends each line
+-- a line for each command
 abbrev pub text_of : List Call → List ℕ
 text_of [] = []
-text_of (call ∷ calls) = line_of call ++ 10 ∷ text_of calls
+text_of (call ∷ calls) = call_text call ++ codes "\n" ++ text_of calls
+
+-- the line that gives a client its turn
+unfoldable pub client_line : ℕ → List ℕ
+client_line client = codes "client " ++ decimal client ++ codes "\n"
+
+-- the commands of this client and those that follow, each client's behind its line
+abbrev pub clients_text : ℕ → List (List Call) → List ℕ
+clients_text client [] = []
+clients_text client (calls ∷ lists) = client_line client ++ text_of calls ++ clients_text (client + 1) lists
+
+-- the commands of clients 1, 2 and so on
+abbrev pub script_text : List (List Call) → List ℕ
+script_text lists = clients_text 1 lists
 
 -- at most 60,000 commands that are written with numbers in range are a script of these calls
 abbrev pub ReadsBack : List Call → Type 0
 ReadsBack calls =
     length calls ≤ MOST_COMMANDS → All IsCallInRange calls →
     script_of (text_of calls) ≡ Ok (record { clients = 1; calls = calls ∷ [] })
+
+-- and so are the commands of 1 to 32 clients, each client's written behind its line
+abbrev pub ClientsReadBack : List (List Call) → Type 0
+ClientsReadBack lists =
+    IsInRange 1 MOST_CLIENTS (length lists) → AreFew lists → AreInRange lists →
+    script_of (script_text lists) ≡ Ok (record { clients = length lists; calls = lists })

@@ -1,7 +1,7 @@
 //! The lines that are printed, and how one goes to a sink through a chunk.
 ghost use Rattle.std.specs.Prelude.{◌≡◌, ◌+◌, ◌≤◌, ◌++◌, length};
 ghost use Rattle.pc_edge.specs.Sending.{Writes};
-ghost use Rattle.pc_text.specs.Printed.{entry_line, pair_line, left_line, height_line, node_line, end_line};
+ghost use Rattle.pc_text.specs.Printed.{entry_line, pair_line, left_line, height_line, node_line, count_line, end_line};
 ghost use Rattle.pc_text.specs.LineText.{line_text};
 
 use crate::fault::{Fault, push_fault};
@@ -29,6 +29,8 @@ pub(crate) enum Line {
     Height(u32),
     /// A node of the tree.
     Node(ShapeLine),
+    /// How many entries there are.
+    Count(usize),
     /// The last line of a run.
     End,
     /// A fault.
@@ -55,6 +57,7 @@ fn push_line(chunk: &mut Chunk, line: Line)
         Line::Pair(key, value) => push_pair(chunk, key, value),
         Line::Height(height) => push_height(chunk, height),
         Line::Node(node) => push_node(chunk, &node),
+        Line::Count(entries) => push_count(chunk, entries),
         Line::End => push_end(chunk),
         Line::Fault(fault) => push_fault(chunk, fault),
     }
@@ -116,6 +119,16 @@ fn push_node(chunk: &mut Chunk, node: &ShapeLine)
     push_number_and_blank(chunk, u64::from(node.height));
     push_signed(chunk, node.balance);
     chunk.push_byte(b'\n');
+}
+
+/// Puts the line that says how many entries there are.
+#[tactic(auto, unfolding(crate::specs::Printed::count_line), using(std::proofs::Common::append_assoc))]
+fn push_count(chunk: &mut Chunk, entries: usize)
+    requires { length chunk.old + ROOM ≤ SIZE }
+    ensures { chunk.new ≡ chunk.old ++ count_line entries }
+{
+    chunk.push_number(entries as u64);
+    chunk.push(b" lines\n");
 }
 
 /// Puts the last line.

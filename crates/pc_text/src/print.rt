@@ -1,8 +1,9 @@
-//! What a run prints: its history, the pairs that are left, and the end.
-ghost use Rattle.std.specs.Prelude.{◌≡◌, [], ◌++◌, false};
+//! What a run prints: its history, the pairs that are left, the shape of the tree where it is wanted, and the end; or,
+//! where a summary is wanted, how many calls there were, and the end.
+ghost use Rattle.std.specs.Prelude.{◌≡◌, [], ◌++◌};
 ghost use Rattle.pc_edge.specs.Sending.{Writes};
 ghost use Rattle.pc_text.specs.Printed.{entry_lines, pair_lines, node_lines, shape_lines, tree_height, listed};
-ghost use Rattle.pc_text.specs.Printed.{printed_run};
+ghost use Rattle.pc_text.specs.Printed.{printed_run, printed_summary, run_text};
 
 use crate::lines::{Line, print_line};
 use crate::shape::ShapeLine;
@@ -14,27 +15,52 @@ use pc_model::Entry;
 pub struct Extras<'a> {
     /// The tree's nodes, where its shape is wanted.
     pub shape: Option<&'a [ShapeLine]>,
-    /// Whether a summary is wanted.
+    /// Whether the number of calls is wanted in place of the history, the pairs and the shape.
     pub summary: bool,
 }
 
-/// Prints a run. It takes no memory, and writes in pieces of some KiB.
+/// Prints a run, or its summary. It takes no memory, and writes in pieces of some KiB.
 pub fn print_run<K: Sink>(
     sink: &mut K,
     history: &[Entry],
     pairs: &[(u64, u64)],
     extras: Extras,
 ) -> Result<(), Failed>
-    // A summary has no text yet.
-    requires no_summary { extras.summary ≡ false }
     ensures { Writes K.held K.faults sink.old sink.new
-        (printed_run history.now pairs.now (listed extras.entry.shape)) [] result }
+        (run_text extras.entry.summary history.now pairs.now (listed extras.entry.shape)) [] result }
+{
+    if extras.summary {
+        print_summary(sink, history)
+    } else {
+        print_all(sink, history, pairs, extras.shape)
+    }
+}
+
+// Prints how many entries a history has.
+fn print_summary<K: Sink>(sink: &mut K, history: &[Entry]) -> Result<(), Failed>
+    ensures { Writes K.held K.faults sink.old sink.new (printed_summary history.now) [] result }
+{
+    let mut chunk = Chunk::new();
+    print_line(sink, &mut chunk, Line::Count(history.len()))?;
+    print_line(sink, &mut chunk, Line::End)?;
+    chunk.flush(sink)
+}
+
+// Prints a history, the pairs and a shape, if one is wanted.
+fn print_all<K: Sink>(
+    sink: &mut K,
+    history: &[Entry],
+    pairs: &[(u64, u64)],
+    shape: Option<&[ShapeLine]>,
+) -> Result<(), Failed>
+    ensures { Writes K.held K.faults sink.old sink.new
+        (printed_run history.now pairs.now (listed shape.entry)) [] result }
 {
     let mut chunk = Chunk::new();
     print_entries(sink, &mut chunk, history)?;
     print_line(sink, &mut chunk, Line::Left(pairs.len()))?;
     print_pairs(sink, &mut chunk, pairs)?;
-    print_shape(sink, &mut chunk, extras.shape)?;
+    print_shape(sink, &mut chunk, shape)?;
     print_line(sink, &mut chunk, Line::End)?;
     chunk.flush(sink)
 }

@@ -6,7 +6,7 @@ use Rattle.pc_edge.specs.Sending.{Writes}
 use Rattle.pc_edge.proofs.Sends.{Writes-then, Writes-more, Writes-failed, Writes-stopped}
 use Rattle.pc_text.proofs.PrintedLines.{Writes-from_empty}
 use Rattle.pc_text.specs.Printed.{entry_lines, left_line, pair_lines, shape_lines, listed, end_line}
-use Rattle.pc_text.proofs.print.print_run.Goals as goal
+use Rattle.pc_text.proofs.print.print_all.Goals as goal
 
 -- the sink failed before the last two parts
 before_two : {K T U E F : Type 0} (held : K → Option (List ℕ)) (faults : K → ℕ) (a b : K)
@@ -37,7 +37,7 @@ returns-in_err-print_entries g c =
     let p = err_from_is_err_and c.from_residual.result c.from_residual.ensures.1 in
     let left = left_line (length c.args.pairs.now) in
     let pairs = pair_lines c.args.pairs.now in
-    let shape = shape_lines (listed c.args.extras.shape) in
+    let shape = shape_lines (listed c.args.shape) in
     let entries = entry_lines 1 c.args.history.now in
     let s1 = Writes-from_empty _ _ _ _ _ entries _ _ c.new-chunk.ensures c.in_err-print_entries.ensures in
     rw p.1 (before_four _ _ _ _ entries left pairs shape end_line _ _ _ s1)
@@ -47,7 +47,7 @@ returns-in_err-print_line g c =
     let p = err_from_is_err_and c.from_residual-in_err-print_line.result c.from_residual-in_err-print_line.ensures.1 in
     let left = left_line (length c.args.pairs.now) in
     let pairs = pair_lines c.args.pairs.now in
-    let shape = shape_lines (listed c.args.extras.shape) in
+    let shape = shape_lines (listed c.args.shape) in
     let entries = entry_lines 1 c.args.history.now in
     let s1 = Writes-from_empty _ _ _ _ _ entries _ _ c.new-chunk.ensures c.in_ok-print_entries.ensures in
     let s2 = Writes-more _ _ _ _ _ entries _ left _ _ _ s1 c.in_err-print_line.ensures in
@@ -59,7 +59,7 @@ returns-in_err-print_pairs g c =
     c.from_residual-in_err-print_pairs.ensures.1 in
     let left = left_line (length c.args.pairs.now) in
     let pairs = pair_lines c.args.pairs.now in
-    let shape = shape_lines (listed c.args.extras.shape) in
+    let shape = shape_lines (listed c.args.shape) in
     let entries = entry_lines 1 c.args.history.now in
     let s1 = Writes-from_empty _ _ _ _ _ entries _ _ c.new-chunk.ensures c.in_ok-print_entries.ensures in
     let s2 = Writes-more _ _ _ _ _ entries _ left _ _ _ s1 c.in_ok-print_line.ensures in
@@ -72,7 +72,7 @@ returns-in_err-print_shape g c =
     c.from_residual-in_err-print_shape.ensures.1 in
     let left = left_line (length c.args.pairs.now) in
     let pairs = pair_lines c.args.pairs.now in
-    let shape = shape_lines (listed c.args.extras.shape) in
+    let shape = shape_lines (listed c.args.shape) in
     let entries = entry_lines 1 c.args.history.now in
     let s1 = Writes-from_empty _ _ _ _ _ entries _ _ c.new-chunk.ensures c.in_ok-print_entries.ensures in
     let s2 = Writes-more _ _ _ _ _ entries _ left _ _ _ s1 c.in_ok-print_line.ensures in
@@ -86,7 +86,7 @@ returns-in_err-print_line-2 g c =
     c.from_residual-in_err-print_line-2.ensures.1 in
     let left = left_line (length c.args.pairs.now) in
     let pairs = pair_lines c.args.pairs.now in
-    let shape = shape_lines (listed c.args.extras.shape) in
+    let shape = shape_lines (listed c.args.shape) in
     let entries = entry_lines 1 c.args.history.now in
     let s1 = Writes-from_empty _ _ _ _ _ entries _ _ c.new-chunk.ensures c.in_ok-print_entries.ensures in
     let s2 = Writes-more _ _ _ _ _ entries _ left _ _ _ s1 c.in_ok-print_line.ensures in
@@ -100,7 +100,7 @@ pub returns : goal.returns
 returns g c =
     let left = left_line (length c.args.pairs.now) in
     let pairs = pair_lines c.args.pairs.now in
-    let shape = shape_lines (listed c.args.extras.shape) in
+    let shape = shape_lines (listed c.args.shape) in
     let entries = entry_lines 1 c.args.history.now in
     let s1 = Writes-from_empty _ _ _ _ _ entries _ _ c.new-chunk.ensures c.in_ok-print_entries.ensures in
     let s2 = Writes-more _ _ _ _ _ entries _ left _ _ _ s1 c.in_ok-print_line.ensures in
