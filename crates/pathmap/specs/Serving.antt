@@ -1,5 +1,5 @@
 -- How a run of the program ends: what was printed where it ended well, and why where it didn't.
-use Rattle.std.specs.Prelude.{◌≡◌, ℕ, ◌<◌, ◌≤◌, ◌⊎◌, ⊤, List, [], length, Option, Some, Result, Ok, Err, IsErr}
+use Rattle.std.specs.Prelude.{◌≡◌, ℕ, Bool, ◌<◌, ◌≤◌, ◌⊎◌, ⊤, List, [], length, Option, Some, Result, Ok, Err, IsErr}
 use Rattle.std.specs.Prelude.{IfSome, IsSome, IsNone}
 use Rattle.std.specs.Io.KnownBytes.{Appends, IsAtEnd}
 use Rattle.pc_model.specs.declared.call.Entry.{Entry}
@@ -16,12 +16,14 @@ use Rattle.pc_text.specs.declared.kind.ScriptKind.TheVariants.{BadByte}
 use Rattle.pc_text.specs.declared.limits.TheConstants.{MOST_BYTES}
 use Rattle.pc_text.specs.Fault.{status_of}
 use Rattle.pc_text.specs.FaultLine.{fault_line}
-use Rattle.pc_text.specs.Printed.{printed_run}
+use Rattle.pc_text.specs.Printed.{run_text}
 use Rattle.pc_text.specs.Script.{script_of}
 use Rattle.pc_text.specs.ScriptValue.{ScriptValue}
 use Rattle.pc_text.specs.declared.shape.ShapeLine.{ShapeLine}
 use Rattle.pc_run.specs.declared.words.Options.{Options}
+use Rattle.pc_run.specs.Reading.{input_for}
 use Rattle.pc_run.specs.Runs.{IsRunOf, IsShapeIfAsked}
+use Rattle.pc_run.specs.Words.{ReadsSource}
 
 -- the bytes are no longer than an input may be, and spell this script
 abbrev pub SpellsScript : List ℕ → ScriptValue → Type 0
@@ -43,44 +45,48 @@ IsRefused bytes = (length bytes ≤ MOST_BYTES) × IsErr (script_of bytes)
 abbrev pub bad_script : ℕ
 bad_script = status_of (Script 1 BadByte)
 
--- the words are taken, and the input was read to its end and spells a script, of whose run these are the history and
--- the pairs left, and the shape, where it was asked for
-pub record HasRunAll (asked : Option Options) (input rest : Option (List ℕ)) (history : List Entry) (pairs : Pairs)
-    (shape : Option (List ShapeLine)) : Type 0 where
+-- The words are taken. Where they name a seed the script is the one that it makes; else the input was read to its end
+-- and spells a script. Of its run these are the history and the pairs left, and the shape, where it was asked for and
+-- no summary was.
+pub record HasRunAll (asked : Option Options) (input rest : Option (List ℕ)) (summary : Bool) (history : List Entry)
+    (pairs : Pairs) (shape : Option (List ShapeLine)) : Type 0 where
   pub options : Options
   pub taken : asked ≡ Some options
   pub script : ScriptValue
-  pub spelled : IfSome input (λ bytes. SpellsScript bytes script)
-  pub at_end : IsAtEnd rest
+  pub spelled : IfSome (input_for options.made input) (λ bytes. SpellsScript bytes script)
+  pub at_end : IsNone options.made → IsAtEnd rest
   pub ran : IsRunOf script.calls history pairs
   pub shaped : IsShapeIfAsked (kind_of options.tree) options.shape pairs shape
+  pub summed : summary ≡ options.summary
 
 -- what the sink holds is what it held before and the history of a run of the script, with the pairs that are left and
--- the shape that was asked for
+-- the shape that was asked for; or the summary of such a run, where that was asked for
 pub record PrintsRun (asked : Option Options) (input rest held held' : Option (List ℕ)) : Type 0 where
+  pub summary : Bool
   pub history : List Entry
   pub pairs : Pairs
   pub shape : Option (List ShapeLine)
-  pub run : HasRunAll asked input rest history pairs shape
-  pub printed : Appends held held' (printed_run history pairs shape)
+  pub run : HasRunAll asked input rest summary history pairs shape
+  pub printed : Appends held held' (run_text summary history pairs shape)
 
 -- a front of that was written before the sink failed
 pub record PrintsFront (asked : Option Options) (input rest held held' : Option (List ℕ)) : Type 0 where
+  pub summary : Bool
   pub history : List Entry
   pub pairs : Pairs
   pub shape : Option (List ShapeLine)
-  pub run : HasRunAll asked input rest history pairs shape
-  pub front : AppendsFront held held' (printed_run history pairs shape)
+  pub run : HasRunAll asked input rest summary history pairs shape
+  pub front : AppendsFront held held' (run_text summary history pairs shape)
 
--- why a run ends in a fault: the words aren't taken; or they are, and the input is too long or has a bad line, or the
--- source failed; want of memory needs no cause, and the other faults don't come
+-- why a run ends in a fault: the words aren't taken; or they are and name no seed, and the input is too long or has a
+-- bad line, or the source failed; want of memory needs no cause, and the other faults don't come
 abbrev pub IsCauseOf : Option Options → Option (List ℕ) → ℕ → ℕ → Fault → Type 0
 IsCauseOf asked input faults faults' Usage = IsNone asked
 IsCauseOf asked input faults faults' Memory = ⊤
-IsCauseOf asked input faults faults' Read = IsSome asked × HasRisen faults faults'
+IsCauseOf asked input faults faults' Read = ReadsSource asked × HasRisen faults faults'
 IsCauseOf asked input faults faults' (Script line kind) =
-    IsSome asked × IfSome input (λ bytes. HasBadLine bytes line kind)
-IsCauseOf asked input faults faults' TooLargeInput = IsSome asked × IfSome input IsTooLong
+    ReadsSource asked × IfSome input (λ bytes. HasBadLine bytes line kind)
+IsCauseOf asked input faults faults' TooLargeInput = ReadsSource asked × IfSome input IsTooLong
 IsCauseOf asked input faults faults' TooManySlots = ⊥
 IsCauseOf asked input faults faults' (Slots client number) = ⊥
 IsCauseOf asked input faults faults' (Numbers counter) = ⊥

@@ -1,7 +1,7 @@
 //! The top call: it reads a script, runs it, and prints the run or the line of a fault.
-ghost use Rattle.std.specs.Prelude.{◌≡◌, ◌≢◌, ◌+◌, ◌≤◌, false, length, IfOk, IfErr};
-ghost use Rattle.std.specs.Prelude.{IfSome, IsSome, IsNone};
-ghost use Rattle.pc_run.specs.Words.{options_of};
+ghost use Rattle.std.specs.Prelude.{◌≡◌, ◌≢◌, ◌+◌, ◌≤◌, length, IfOk, IfErr};
+ghost use Rattle.std.specs.Prelude.{IfSome, IsNone};
+ghost use Rattle.pc_run.specs.Words.{options_of, ReadsSource, LeavesSource};
 ghost use Rattle.pc_run.specs.Reading.{TakesAtMost};
 ghost use Rattle.pc_run.specs.Runs.{lines_of};
 ghost use Rattle.pathmap.specs.Serving.{PrintsRun, PrintsFront, HasRunAll, RunsBytes, bad_script};
@@ -12,7 +12,7 @@ ghost use Rattle.pc_text.specs.Fault.{status_of};
 ghost use Rattle.pc_text.specs.Printed.{listed};
 
 use pc_edge::{Failed, Gate, Sink, Source};
-use pc_run::{Options, Run, options_of, read_all, run_script};
+use pc_run::{Options, Run, options_of, read_input, run_script};
 use pc_text::{Extras, Fault, MOST_BYTES, print_fault, print_run, read_script};
 use std::alloc::Global;
 use std::sync::Wait;
@@ -32,7 +32,9 @@ pub struct Outcome {
 }
 
 /// Reads a script from the source, runs it with a worker for each client, and prints the history of all clients, the
-/// pairs that are left and, under `--shape`, the shape of the tree.
+/// pairs that are left and, under `--shape`, the shape of the tree. Under `--made` the script is the one that the seed
+/// makes, of 32 clients with 500 commands each, and the source isn't read. Under `--summary` only the number of the
+/// history's calls is printed.
 ///
 /// The gate is called before and after each command, by the worker that runs it.
 ///
@@ -48,7 +50,8 @@ pub fn serve<R: Threads + Wait + Sync, S: Source, K: Sink, G: Gate + Sync>(
     sink: &mut K,
     gate: &G,
 ) -> Outcome
-    // Printed is the history of a run of the script, with the pairs that are left and the shape that was asked for.
+    // Printed is the history of a run of the script, with the pairs that are left and the shape that was asked for, or
+    // its summary.
     ensures ok { result.status ≡ PRINTED →
         PrintsRun (options_of words.now)
         (S.left source.old) (S.left source.new) (K.held sink.old) (K.held sink.new) }
@@ -65,15 +68,15 @@ pub fn serve<R: Threads + Wait + Sync, S: Source, K: Sink, G: Gate + Sync>(
         (IsCauseOf (options_of words.now) (S.left source.old) (S.faults source.old) (S.faults source.new))
         (WritesFault K.held K.faults sink.old sink.new) }
     ensures usage { IsNone (options_of words.now) → EndsUnlessMemory (status_of Fault.Usage) result.status }
-    ensures too_large { IsSome (options_of words.now) →
+    ensures too_large { ReadsSource (options_of words.now) →
         IfSome (S.left source.old) (λ bytes. IsTooLong bytes →
         EndsUnlessStopped (status_of Fault.TooLargeInput) result.status) }
-    ensures refused { IsSome (options_of words.now) →
+    ensures refused { ReadsSource (options_of words.now) →
         IfSome (S.left source.old) (λ bytes. IsRefused bytes →
         EndsUnlessStopped bad_script result.status) }
 
-    // Where the words aren't taken nothing is read, and else at most one byte past the limit.
-    ensures unread { IsNone (options_of words.now) → source.new ≡ source.old }
+    // Where the words aren't taken, or name a seed, nothing is read, and else at most one byte past the limit.
+    ensures unread { LeavesSource (options_of words.now) → source.new ≡ source.old }
     ensures few { TakesAtMost (MOST_BYTES + 1) (S.left source.old) (S.left source.new) }
     ensures source_never_falls { S.faults source.old ≤ S.faults source.new }
     ensures sink_never_falls { K.faults sink.old ≤ K.faults sink.new }
@@ -91,11 +94,11 @@ pub fn serve<R: Threads + Wait + Sync, S: Source, K: Sink, G: Gate + Sync>(
 // What is printed of a run besides its history and its pairs.
 fn extras_of(run: &Run) -> Extras<'_>
     ensures shape { listed result.shape ≡ lines_of run.now.shape }
-    ensures no_summary { result.summary ≡ false }
+    ensures summary { result.summary ≡ run.now.summary }
 {
     Extras {
         shape: run.shape.as_deref(),
-        summary: false,
+        summary: run.summary,
     }
 }
 
@@ -108,16 +111,17 @@ fn run_input<R: Threads + Wait + Sync, S: Source, G: Gate + Sync>(
     gate: &G,
 ) -> Result<Run, Fault>
     ensures ok { IfOk result (λ run. HasRunAll (options_of words.now)
-        (S.left source.old) (S.left source.new) run.map.entries run.pairs.items (lines_of run.shape)) }
-    ensures not_refused { IfOk result (λ _. IfSome (S.left source.old) (λ bytes. IsRefused bytes → ⊥)) }
+        (S.left source.old) (S.left source.new) run.summary run.map.entries run.pairs.items (lines_of run.shape)) }
+    ensures not_refused { ReadsSource (options_of words.now) →
+        IfOk result (λ _. IfSome (S.left source.old) (λ bytes. IsRefused bytes → ⊥)) }
     ensures cause { IfErr result
         (IsCauseOf (options_of words.now) (S.left source.old) (S.faults source.old) (S.faults source.new)) }
-    ensures unread { IsNone (options_of words.now) → source.new ≡ source.old }
+    ensures unread { LeavesSource (options_of words.now) → source.new ≡ source.old }
     ensures few { TakesAtMost (MOST_BYTES + 1) (S.left source.old) (S.left source.new) }
     ensures never_falls { S.faults source.old ≤ S.faults source.new }
 {
     let options = options_of(alloc, words)?;
-    let bytes = read_all(alloc, source)?;
+    let bytes = read_input(alloc, options.made, source)?;
     let run = run_bytes(rt, alloc, options, &bytes, gate)?;
     Ok(run)
 }
@@ -133,6 +137,7 @@ fn run_bytes<R: Threads + Wait + Sync, G: Gate + Sync>(
     requires { length bytes.now ≤ MOST_BYTES }
     ensures ok { IfOk result
         (λ run. RunsBytes options bytes.now run.map.entries run.pairs.items (lines_of run.shape)) }
+    ensures summary { IfOk result (λ run. run.summary ≡ options.summary) }
     ensures not_refused { IfOk result (λ _. IsRefused bytes.now → ⊥) }
     ensures cause { IfErr result (IsBytesFault bytes.now) }
 {

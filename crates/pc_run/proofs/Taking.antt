@@ -1,14 +1,14 @@
 -- What clap's clauses say of the words: taken, they ask for what its matches have; refused, for nothing.
 use Rattle.std.proofs.Common.{◌≡◌, ◌⊎◌, List, [], ◌∷◌, Option, Some, None, is_some, refl, ap, true, false}
 use Rattle.std.proofs.Common.{inl, inr, arith, ne_eqb}
-use Rattle.std.specs.Prelude.{IsNone, IfOk, IfErr, ok_or}
+use Rattle.std.specs.Prelude.{IsNone, IfSome, IfOk, IfErr, ok_or}
 use Rattle.clap.specs.Words.{Kinds, IsAmong, Row, Text, fault_of, matches_of, is_simple_and_free, is_simple}
 use Rattle.clap.specs.Walk.{is_empty}
 use Rattle.clap.specs.declared.error.kind.ErrorKind.{ErrorKind}
 use Rattle.clap.specs.declared.error.kind.ErrorKind.TheVariants.{OutOfMemory}
 use Rattle.clap.proofs.OnLiterals.{clap_on_literals}
 use Rattle.pc_text.specs.declared.fault.Fault.TheVariants.{Usage}
-use Rattle.pc_run.specs.Words.{pathmap, asked_by, options_in, fault_of_kind, IsWordsFault}
+use Rattle.pc_run.specs.Words.{pathmap, asked_by, options_in, fault_of_kind, HasSeedInRange, IsWordsFault}
 use Rattle.pc_run.specs.declared.words.Options.{Options}
 
 pub pathmap_is_simple : is_simple_and_free pathmap ≡ true
@@ -46,3 +46,8 @@ pub options_or_usage : (asked found : Option Options) → asked ≡ found
     → IfOk (ok_or found Usage) (λ options. asked ≡ Some options) × IfErr (ok_or found Usage) (IsWordsFault asked)
 options_or_usage asked None is = (tt, ap is_some is)
 options_or_usage asked (Some options) is = (is, tt)
+
+-- the seed that is found is in range
+pub ok_or_in_range : (found : Option Options) → IfSome found HasSeedInRange → IfOk (ok_or found Usage) HasSeedInRange
+ok_or_in_range None seed = tt
+ok_or_in_range (Some options) seed = seed

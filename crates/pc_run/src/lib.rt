@@ -10,6 +10,6 @@ mod shares;
 mod together;
 mod words;
 
-pub use reading::read_all;
+pub use reading::{MADE_CLIENTS, MADE_COMMANDS, read_all, read_input};
 pub use run::{Run, run_script};
 pub use words::{Options, options_of};

@@ -21,12 +21,13 @@ use std::sync::Wait;
 use std::thread::Threads;
 
 /// What a run leaves: the map with its history, its pairs by rising key, and the tree's shape, where it was
-/// asked for.
+/// asked for; and whether no more than a summary of it is wanted.
 #[derive(Drop)]
 pub struct Run {
     pub map: LockedState,
     pub pairs: Vec<(u64, u64)>,
     pub shape: Option<Vec<ShapeLine>>,
+    pub summary: bool,
 }
 
 /// Runs a script on a map of the kind that is asked for, a worker for each client.
@@ -43,11 +44,17 @@ pub fn run_script<R: Threads + Wait + Sync, G: Gate + Sync>(
     ensures run { IfOk result (λ run. IsRunOf script.now.calls run.map.entries run.pairs.items) }
     ensures shape { IfOk result
         (λ run. IsShapeIfAsked (kind_of options.tree) options.shape run.pairs.items (lines_of run.shape)) }
+    ensures summary { IfOk result (λ run. run.summary ≡ options.summary) }
 {
     let map = run_clients_of(rt, alloc, options, script, gate)?;
     let pairs = pairs(alloc, map.cells())?;
     let shape = shape_if_asked(alloc, options, map.cells())?;
-    Ok(Run { map, pairs, shape })
+    Ok(Run {
+        map,
+        pairs,
+        shape,
+        summary: options.summary,
+    })
 }
 
 // Runs the clients of a script until each has ended, and leaves the map.

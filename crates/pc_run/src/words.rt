@@ -1,13 +1,15 @@
 //! The words of the command line, which clap reads as one simple command.
-ghost use Rattle.std.specs.Prelude.{◌≡◌, Some, IfOk, IfErr};
+ghost use Rattle.std.specs.Prelude.{◌≡◌, ◌≤◌, Some, option_map, IfOk, IfErr, IfSome};
 ghost use Rattle.clap.specs.Words.{app_of, found_of, kind_of, rows_of};
-ghost use Rattle.pc_run.specs.Words.{pathmap, options_of, options_in, has_value};
+ghost use Rattle.pc_text.specs.ScriptWords.{number_of};
+ghost use Rattle.pc_run.specs.Words.{pathmap, options_of, options_in, made_in, has_flag};
+ghost use Rattle.pc_run.specs.Words.{HasSeedInRange};
 ghost use Rattle.pc_run.specs.Words.{tree_in, tree_named, fault_of_kind, IsWordsFault};
 
 use clap::error::ErrorKind;
 use clap::{Arg, ArgAction, ArgMatches, Command, Error};
 use pc_avl::TreeKind;
-use pc_text::Fault;
+use pc_text::{Fault, GREATEST_NUMBER, read_number};
 use std::alloc::{AllocError, Global};
 
 /// What the words of a command line ask for.
@@ -15,13 +17,18 @@ use std::alloc::{AllocError, Global};
 pub struct Options {
     /// The kind of tree that the map is.
     pub tree: TreeKind,
-    /// Whether the tree's shape is printed after the pairs.
+    /// Whether the tree's shape is printed after the pairs: it was asked for, and no summary.
     pub shape: bool,
+    /// Whether the number of calls is printed in place of the history, the pairs and the shape.
+    pub summary: bool,
+    /// The seed whose script is run, where one is named. The source isn't read then.
+    pub made: Option<u64>,
 }
 
 /// What the words ask for, the program's name first.
 pub fn options_of(alloc: Global, words: &[String]) -> Result<Options, Fault>
     ensures taken { IfOk result (λ options. options_of words.now ≡ Some options) }
+    ensures seed { IfOk result HasSeedInRange }
     ensures cause { IfErr result (IsWordsFault (options_of words.now)) }
 {
     let command = command(alloc)?;
@@ -39,21 +46,53 @@ fn command<'a>(alloc: Global) -> Result<Command<'a>, AllocError>
     let shape = Arg::new(alloc, "shape")
         .long("shape")
         .action(ArgAction::SetTrue);
+    let summary = Arg::new(alloc, "summary")
+        .long("summary")
+        .action(ArgAction::SetTrue);
+    let made = Arg::new(alloc, "made").long("made");
     Command::new(alloc, "pathmap")
         .disable_help_flag(true)
         .arg(tree)?
-        .arg(shape)
+        .arg(shape)?
+        .arg(summary)?
+        .arg(made)
 }
 
-// What the command's matches ask for, where they name a tree.
+// What the command's matches ask for, where they name a tree, and a seed or none.
 fn options_in(matches: &ArgMatches<'_>) -> Option<Options>
-    ensures { result ≡ options_in (rows_of (found_of matches.now)) }
+    ensures options { result ≡ options_in (rows_of (found_of matches.now)) }
+    ensures seed { IfSome result HasSeedInRange }
 {
-    match tree_in(matches) {
-        Some(tree) => Some(Options {
-            tree,
-            shape: has_value(matches, "shape", "true"),
-        }),
+    let tree = tree_in(matches)?;
+    let made = made_in(matches)?;
+    let summary = has_flag(matches, "summary");
+    let shape = has_flag(matches, "shape") && !summary;
+    Some(Options {
+        tree,
+        shape,
+        summary,
+        made,
+    })
+}
+
+// The seed that the matches name, where they have the option.
+fn made_in(matches: &ArgMatches<'_>) -> Option<Option<u64>>
+    ensures made { result ≡ made_in (rows_of (found_of matches.now)) }
+    ensures seed { IfSome result (λ made. IfSome made (λ seed. seed ≤ GREATEST_NUMBER)) }
+{
+    match matches.get_str("made") {
+        Some(text) => seed_of(text),
+        None => Some(None),
+    }
+}
+
+// The seed that a text is, where it is one.
+fn seed_of(text: &str) -> Option<Option<u64>>
+    ensures made { result ≡ option_map Some (number_of text.now) }
+    ensures seed { IfSome result (λ made. IfSome made (λ seed. seed ≤ GREATEST_NUMBER)) }
+{
+    match read_number(text.as_bytes()) {
+        Some(seed) => Some(Some(seed)),
         None => None,
     }
 }
@@ -79,12 +118,12 @@ fn tree_named(name: &str) -> Option<TreeKind>
     }
 }
 
-// Whether an option has this value. A flag that was given has the value `true`.
-fn has_value(matches: &ArgMatches<'_>, id: &str, value: &str) -> bool
-    ensures { result ≡ has_value id.now value.now (rows_of (found_of matches.now)) }
+// Whether a flag was given: it has the value `true` then.
+fn has_flag(matches: &ArgMatches<'_>, id: &str) -> bool
+    ensures { result ≡ has_flag id.now (rows_of (found_of matches.now)) }
 {
     match matches.get_str(id) {
-        Some(text) => text == value,
+        Some(text) => text == "true",
         None => false,
     }
 }

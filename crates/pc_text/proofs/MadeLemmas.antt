@@ -72,6 +72,7 @@ count_in seed commands client (suc clients) =
     ∙ one_more_of clients commands
 
 pub made_reads_back : (seed clients commands : ℕ) → MadeReadsBack seed clients commands
+unfolding made_script
 made_reads_back seed clients commands some few =
     let many : length (made_lists seed clients commands) ≡ clients =
     length-map-range_with_len (made_commands seed commands) 1 clients in
@@ -123,6 +124,7 @@ short_clients client (calls ∷ lists) few in_range =
 -- a made script is no longer than an input may be
 pub made_is_short : (seed clients commands : ℕ) → clients ≤ MOST_CLIENTS → clients * commands ≤ MOST_COMMANDS
     → length (made_script seed clients commands) ≤ MOST_BYTES
+unfolding made_script
 made_is_short seed clients commands few short =
     let lists = made_lists seed clients commands in
     let many : length lists ≡ clients = length-map-range_with_len (made_commands seed commands) 1 clients in

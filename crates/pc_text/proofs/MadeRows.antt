@@ -23,5 +23,5 @@ three_commands : made_lists 0 1 3 ≡ (Ceil 758 ∷ Put 515 31051 ∷ Get 10 ∷
 three_commands = refl
 
 three_lines : made_script 0 1 3 ≡ codes "client 1\nceil 758\nput 515 31051\nget 10\n"
-unfolding call_text client_line digits
+unfolding made_script call_text client_line digits
 three_lines = refl

@@ -69,7 +69,7 @@ abbrev pub made_lists : ℕ → ℕ → ℕ → List (List Call)
 made_lists seed clients commands = map (made_commands seed commands) (range_with_len 1 clients)
 
 -- the script of these
-abbrev pub made_script : ℕ → ℕ → ℕ → List ℕ
+unfoldable pub made_script : ℕ → ℕ → ℕ → List ℕ
 made_script seed clients commands = script_text (made_lists seed clients commands)
 
 -- the made script of 1 to 32 clients with at most 60,000 commands together is a script of the drawn commands

@@ -18,6 +18,7 @@ loop-before-preserved g c =
     c.in_ok-write_client.ensures
 
 pub returns-in_err-write_client : goal.returns-in_err-write_client
+unfolding made_script
 returns-in_err-write_client g c =
     let p = err_from_is_err_and c.from_residual.result c.from_residual.ensures.1 in
     let client = c.loop-before.before + 1 in
@@ -29,6 +30,7 @@ returns-in_err-write_client g c =
     c.in_err-write_client.ensures))
 
 pub returns : goal.returns
+unfolding made_script
 returns g c =
     let chunk = c.new-chunk.result in
     let script = made_script c.args.seed c.args.clients c.args.commands in

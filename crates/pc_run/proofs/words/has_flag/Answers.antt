@@ -1,15 +1,15 @@
 -- The text that the getter gives is that of the row of matches.
-use Rattle.std.proofs.Common.{◌∙◌, false, ap}
+use Rattle.std.proofs.Common.{◌∙◌, false, codes, ap}
 use Rattle.std.specs.Option.{option_map_or}
 use Rattle.std.specs.Str.{bytes_eq}
 use Rattle.clap.specs.Words.{found_of}
 use Rattle.clap.proofs.WalkLemmas.{first_value-rows}
-use Rattle.pc_run.proofs.words.has_value.Goals as goal
+use Rattle.pc_run.proofs.words.has_flag.Goals as goal
 
 pub returns-in-Some : goal.returns-in-Some
-returns-in-Some c = c.eq.ensures ∙ ap (λ o. option_map_or (λ text. bytes_eq text c.args.value.now) o false)
+returns-in-Some c = c.eq.ensures ∙ ap (λ o. option_map_or (λ text. bytes_eq text (codes "true")) o false)
     (c.in-Some.ensures ∙ first_value-rows (found_of c.args.matches.now) c.args.id.now)
 
 pub returns-in-None : goal.returns-in-None
-returns-in-None c = ap (λ o. option_map_or (λ text. bytes_eq text c.args.value.now) o false)
+returns-in-None c = ap (λ o. option_map_or (λ text. bytes_eq text (codes "true")) o false)
     (c.in-None.ensures ∙ first_value-rows (found_of c.args.matches.now) c.args.id.now)
