@@ -42,6 +42,7 @@ pub struct Outcome {
 /// script. 4: the source failed. 5: the sink failed while the run was
 /// printed. 6: the input has more than 4,194,304 bytes. 9: memory was wanting, before the first byte. At
 /// each status but 0 and 5 the line of the fault is written.
+#[tactic(auto, using(crate::proofs::Inputs::none_reads))]
 pub fn serve<R: Threads + Wait + Sync, S: Source, K: Sink, G: Gate + Sync>(
     rt: &R,
     alloc: Global,
@@ -122,8 +123,7 @@ fn run_input<R: Threads + Wait + Sync, S: Source, G: Gate + Sync>(
 {
     let options = options_of(alloc, words)?;
     let bytes = read_input(alloc, options.made, source)?;
-    let run = run_bytes(rt, alloc, options, &bytes, gate)?;
-    Ok(run)
+    run_bytes(rt, alloc, options, &bytes, gate)
 }
 
 // Runs the script that bytes spell.
