@@ -1,6 +1,7 @@
 #!/usr/bin/env bash
-# Tests `bin/pathmap`, the script that builds the program where need be and runs it: in checkouts that are
-# made here, with a command `rt` that stands for the toolchain's and builds nothing but a word to print.
+# Tests `bin/start.sh`, by which `bin/pathmap` and `bin/pathmap_make` build their programs where need be and run them:
+# in checkouts that are made here, with a command `rt` that stands for the toolchain's and builds nothing but a word to
+# print.
 set -u
 cd "$(dirname "$0")/.."
 here=$(mktemp -d)
@@ -26,7 +27,8 @@ if grep -q broken src/main.rt; then
     echo 'logic=not-proved'
     exit 1
 fi
-mkdir -p out && printf '#!/bin/sh\necho "%s $*"\nexit 3\n' "$(cat src/main.rt)" >out/pathmap && chmod 755 out/pathmap
+program=out/$(basename "$PWD")
+mkdir -p out && printf '#!/bin/sh\necho "%s $*"\nexit 3\n' "$(cat src/main.rt)" >"$program" && chmod 755 "$program"
 RT
 chmod 755 "$here/tools/rt"
 
@@ -34,7 +36,7 @@ chmod 755 "$here/tools/rt"
 checkout() {
     at=$here/$1
     mkdir -p "$at/bin" "$at/crates/pathmap/src"
-    cp bin/pathmap "$at/bin/pathmap"
+    cp bin/* "$at/bin"
     echo 'pathmap:' >"$at/crates.txt"
     echo first >"$at/crates/pathmap/src/main.rt"
     find "$at" -exec touch -d '1 hour ago' {} +
@@ -81,6 +83,13 @@ run "$at/bin/pathmap"
 check 'a second call runs' 3 'first'
 holds 'a second call builds nothing' [ "$(runs)" = 1 ]
 ln -s "$at/bin/pathmap" "$here/link"
+mkdir -p "$at/crates/pathmap_make/src"
+echo other >"$at/crates/pathmap_make/src/main.rt"
+touch -d '1 hour ago' "$at/crates/pathmap_make/src/main.rt"
+run "$at/bin/pathmap_make" 7
+check 'another program is built under its name' 3 'pathmap_make: built' 'other 7'
+run "$at/bin/pathmap"
+holds 'it is another than the first' lacks 'other'
 cd /
 run "$here/link"
 cd "$OLDPWD"

@@ -1,13 +1,12 @@
 -- How a run of the program ends: what was printed where it ended well, and why where it didn't.
-use Rattle.std.specs.Prelude.{◌≡◌, ℕ, Bool, ◌<◌, ◌≤◌, ◌⊎◌, ⊤, List, [], length, Option, Some, Result, Ok, Err, IsErr}
+use Rattle.std.specs.Prelude.{◌≡◌, ℕ, Bool, ◌<◌, ◌≤◌, ◌⊎◌, ⊤, List, length, Option, Some, Ok, Err, IsErr}
 use Rattle.std.specs.Prelude.{IfSome, IsSome, IsNone}
 use Rattle.std.specs.Io.KnownBytes.{Appends, IsAtEnd}
 use Rattle.pc_model.specs.declared.call.Entry.{Entry}
 use Rattle.pc_model.specs.Map.{Pairs}
 use Rattle.pc_avl.specs.TreeKinds.{kind_of}
 use Rattle.pc_edge.specs.Faults.{HasRisen}
-use Rattle.pc_edge.specs.declared.traits.Failed.{Failed}
-use Rattle.pc_edge.specs.Sending.{AppendsFront, Writes}
+use Rattle.pc_edge.specs.Sending.{AppendsFront}
 use Rattle.pc_text.specs.declared.fault.Fault.{Fault}
 use Rattle.pc_text.specs.declared.fault.Fault.TheVariants.{Usage, Script, Read, TooLargeInput, TooManySlots, Slots}
 use Rattle.pc_text.specs.declared.fault.Fault.TheVariants.{Numbers, Memory}
@@ -15,7 +14,6 @@ use Rattle.pc_text.specs.declared.kind.ScriptKind.{ScriptKind}
 use Rattle.pc_text.specs.declared.kind.ScriptKind.TheVariants.{BadByte}
 use Rattle.pc_text.specs.declared.limits.TheConstants.{MOST_BYTES}
 use Rattle.pc_text.specs.Fault.{status_of}
-use Rattle.pc_text.specs.FaultLine.{fault_line}
 use Rattle.pc_text.specs.Printed.{run_text}
 use Rattle.pc_text.specs.Script.{script_of}
 use Rattle.pc_text.specs.ScriptValue.{ScriptValue}
@@ -90,11 +88,6 @@ IsCauseOf asked input faults faults' TooLargeInput = ReadsSource asked × IfSome
 IsCauseOf asked input faults faults' TooManySlots = ⊥
 IsCauseOf asked input faults faults' (Slots client number) = ⊥
 IsCauseOf asked input faults faults' (Numbers counter) = ⊥
-
--- the fault's line was written, whole or up to where the sink failed
-abbrev pub WritesFault : {K : Type 0} → (K → Option (List ℕ)) → (K → ℕ) → K → K → Fault → Type 0
-WritesFault held faults old new fault =
-    (written : Result (Unit {0}) Failed) × Writes held faults old new (fault_line fault) [] written
 
 -- the run ended in a fault that has its cause, with its status and its line
 pub record EndsInFault (status : ℕ) (IsCause WritesLine : Fault → Type 0) : Type 0 where

@@ -3,8 +3,8 @@
 #![tactic(auto)]
 
 ghost use Rattle.std.specs.Prelude.{◌≡◌, ◌≢◌};
-ghost use Rattle.pathmap.specs.Serving.{WritesFault};
 ghost use Rattle.pc_text.specs.Fault.{status_of};
+ghost use Rattle.pc_text.specs.FaultLine.{WritesFault};
 
 mod serve;
 

@@ -5,10 +5,11 @@ ghost use Rattle.pc_run.specs.Words.{options_of, ReadsSource, LeavesSource};
 ghost use Rattle.pc_run.specs.Reading.{TakesAtMost};
 ghost use Rattle.pc_run.specs.Runs.{lines_of};
 ghost use Rattle.pathmap.specs.Serving.{PrintsRun, PrintsFront, HasRunAll, RunsBytes, bad_script};
-ghost use Rattle.pathmap.specs.Serving.{EndsInFault, IsCauseOf, IsBytesFault, WritesFault};
+ghost use Rattle.pathmap.specs.Serving.{EndsInFault, IsCauseOf, IsBytesFault};
 ghost use Rattle.pathmap.specs.Serving.{IsTooLong, IsRefused, EndsUnlessMemory, EndsUnlessStopped};
 ghost use Rattle.pc_edge.specs.Faults.{HasRisen};
 ghost use Rattle.pc_text.specs.Fault.{status_of};
+ghost use Rattle.pc_text.specs.FaultLine.{WritesFault};
 ghost use Rattle.pc_text.specs.Printed.{listed};
 
 use pc_edge::{Failed, Gate, Sink, Source};

@@ -56,6 +56,56 @@ const COMMANDS: &[Command] = &[
         0,
         "fault usage\n",
     ),
+    // A summary has no shape.
+    (&["pathmap", "--summary"], 0, 2, "2 lines\nend\n"),
+    (
+        &["pathmap", "--summary", "--shape"],
+        0,
+        2,
+        "2 lines\nend\n",
+    ),
+    (
+        &["pathmap", "--shape", "--tree=avl", "--summary"],
+        0,
+        2,
+        "2 lines\nend\n",
+    ),
+    (&["pathmap", "--summary=x"], 2, 0, "fault usage\n"),
+    (
+        &["pathmap", "--summary", "--summary"],
+        2,
+        0,
+        "fault usage\n",
+    ),
+    // With a seed the source isn't read. A seed is a number as a script writes one.
+    (
+        &["pathmap", "--made", "7", "--tree", "avl", "--summary"],
+        0,
+        0,
+        "16000 lines\nend\n",
+    ),
+    (
+        &["pathmap", "--summary", "--made=007"],
+        0,
+        0,
+        "16000 lines\nend\n",
+    ),
+    (&["pathmap", "--made"], 2, 0, "fault usage\n"),
+    (&["pathmap", "--made="], 2, 0, "fault usage\n"),
+    (&["pathmap", "--made=+1"], 2, 0, "fault usage\n"),
+    (&["pathmap", "--made=seven"], 2, 0, "fault usage\n"),
+    (
+        &["pathmap", "--made=1000000000000000000"],
+        2,
+        0,
+        "fault usage\n",
+    ),
+    (
+        &["pathmap", "--made=7", "--made=7"],
+        2,
+        0,
+        "fault usage\n",
+    ),
 ];
 
 /// The words, the input, the reads that there were, and the output with a shape.

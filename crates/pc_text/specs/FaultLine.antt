@@ -1,6 +1,8 @@
 -- The line that a fault prints.
-use Rattle.std.specs.Prelude.{ℕ, List, ◌++◌, codes}
+use Rattle.std.specs.Prelude.{ℕ, List, [], ◌++◌, codes, Option, Result}
 use Rattle.std.specs.Fmt.{decimal}
+use Rattle.pc_edge.specs.declared.traits.Failed.{Failed}
+use Rattle.pc_edge.specs.Sending.{Writes}
 use Rattle.pc_model.specs.declared.cell.Counter.{Counter}
 use Rattle.pc_model.specs.declared.cell.Counter.TheVariants.{Attempt, Install, Stamp, Version, Epoch}
 use Rattle.pc_text.specs.declared.kind.ScriptKind.{ScriptKind}
@@ -39,3 +41,8 @@ fault_text Memory = codes "memory"
 
 unfoldable pub fault_line : Fault → List ℕ
 fault_line fault = codes "fault " ++ fault_text fault ++ codes "\n"
+
+-- the fault's line was written, whole or up to where the sink failed
+abbrev pub WritesFault : {K : Type 0} → (K → Option (List ℕ)) → (K → ℕ) → K → K → Fault → Type 0
+WritesFault held faults old new fault =
+    (written : Result (Unit {0}) Failed) × Writes held faults old new (fault_line fault) [] written

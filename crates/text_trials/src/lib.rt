@@ -8,6 +8,8 @@ mod debts;
 #[cfg(test)]
 mod edges;
 #[cfg(test)]
+mod made;
+#[cfg(test)]
 mod printing;
 #[cfg(test)]
 mod replays;

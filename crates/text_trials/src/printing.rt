@@ -86,6 +86,13 @@ const OTHER_CALLS: &[Entry] = &[
 const OTHER_LINES: &[u8] = b"1 2.1 put 1 2 = was 3\n2 2.2 remove 0 = none\n3 2.3 ceil 10 = 11 12\n\
       4 2.4 floor 999999999999999999 = 0 0\nleft 2\n1 2\n11 12\nend\n";
 
+const SUMMED: &[(&[Entry], Room, Result<(), Failed>, &[u8])] = &[
+    (TWO_CALLS, (100, 1), Ok(()), b"2 lines\nend\n"),
+    (OTHER_CALLS, (100, 100), Ok(()), b"4 lines\nend\n"),
+    (&[], (100, 100), Ok(()), b"0 lines\nend\n"),
+    (TWO_CALLS, (9, 2), Err(Failed), b"2 lines\ne"),
+];
+
 /// A run: its history, its pairs and its shape.
 type Run = (
     &'static [Entry],
@@ -142,6 +149,17 @@ fn prints_so(alloc: Global, run: Run, room: Room, ended: Result<(), Failed>, tex
         shape: run.2,
         summary: false,
     };
+    prints_with(alloc, run, extras, room, ended, text)
+}
+
+fn prints_with(
+    alloc: Global,
+    run: Run,
+    extras: Extras,
+    room: Room,
+    ended: Result<(), Failed>,
+    text: &[u8],
+) -> bool {
     match MemorySink::with_room(alloc, room.0, room.1.max(1)) {
         Ok(mut sink) => {
             let printed = print_run(&mut sink, run.0, run.1, extras);
@@ -155,6 +173,21 @@ fn prints_so(alloc: Global, run: Run, room: Room, ended: Result<(), Failed>, tex
 fn first_run_misprinted(alloc: Global) -> Option<usize> {
     for (i, (run, room, ended, text)) in RUNS.iter().enumerate() {
         if !prints_so(alloc, *run, *room, *ended, text) {
+            return Some(i);
+        }
+    }
+    None
+}
+
+// The pairs and the shape don't stand in a summary.
+fn first_summary_misprinted(alloc: Global) -> Option<usize> {
+    let extras = Extras {
+        shape: Some(TWO_NODES),
+        summary: true,
+    };
+    for (i, (history, room, ended, text)) in SUMMED.iter().enumerate() {
+        let run: Run = (history, &[(5, 50)], None);
+        if !prints_with(alloc, run, extras, *room, *ended, text) {
             return Some(i);
         }
     }
@@ -268,7 +301,11 @@ fn runs_and_faults_have_their_texts_or_a_front_of_them(rt: HostRuntime) {
     let alloc = rt.alloc();
     all_hold(
         &rt,
-        &[first_run_misprinted(alloc), first_fault_mistold(alloc)],
+        &[
+            first_run_misprinted(alloc),
+            first_summary_misprinted(alloc),
+            first_fault_mistold(alloc),
+        ],
     );
     printed_run_fixes_history();
 }
