@@ -20,9 +20,12 @@ import wrong_runs
 from history_checker import MOST_CLIENTS, BadScript, Wrong, check, read_script
 
 PROGRAM = pathlib.Path(__file__).resolve().parent.parent / "bin/pathmap"
+MAKER = PROGRAM.with_name("pathmap_make")
 TREES = ["bst", "avl"]
 # The seconds that a run may take.
 PATIENCE = 60
+# The seed of the runs under --made, and the clients and commands that such runs have.
+MADE = ["7", "32", "500"]
 # How many scripts there are of the most clients with 500 commands each, on eight keys.
 CROWDS = 5
 
@@ -121,18 +124,30 @@ def check_crowds(most_clients):
     return count
 
 
+def check_made():
+    """Runs of a script that the program makes itself, each checked against the script that the other one writes."""
+    count = Count()
+    script = subprocess.run([MAKER, *MADE], stdout=subprocess.PIPE, check=True).stdout
+    for tree in TREES:
+        words = [PROGRAM, "--made", MADE[0], "--tree", tree, "--shape"]
+        ended = subprocess.run(words, stdin=subprocess.DEVNULL, capture_output=True, timeout=PATIENCE)
+        count.add(f"made, {tree}", script, ended.stdout, tree, True)
+    return count
+
+
 def check_all(most_clients):
     kinds, refusals = check_refusals()
     simulated = check_simulated()
     # The program is built here, where need be, in the time that this takes.
     subprocess.run([PROGRAM], input=b"", stdout=subprocess.DEVNULL, check=True)
-    runs, crowds = check_program(most_clients), check_crowds(most_clients)
+    runs, crowds, made = check_program(most_clients), check_crowds(most_clients), check_made()
+    print(f"made: {made.right} right, {made.wrong} wrong")
     print(f"crowds: {crowds.right} right, {crowds.wrong} wrong, with {crowds.turns} changes of the client")
     print(
         f"histories: {runs.right} right, {runs.wrong} wrong; {refusals} of {kinds} kinds of wrong outputs refused,"
         f" {simulated.right} of {simulated.right + simulated.wrong} right ones taken"
     )
-    return refusals == kinds and not (simulated.wrong or runs.wrong or crowds.wrong)
+    return refusals == kinds and not (simulated.wrong or runs.wrong or crowds.wrong or made.wrong)
 
 
 def check_files(script, output, tree, shape):

@@ -1,5 +1,6 @@
 #!/usr/bin/env bash
-# Runs `bin/pathmap` as a user does: what it prints and how it ends, for good scripts and for bad.
+# Runs `bin/pathmap` and `bin/pathmap_make` as a user does: what they print and how they end, for good scripts and words
+# and for bad.
 set -u
 cd "$(dirname "$0")/.."
 passed=0
@@ -54,7 +55,32 @@ check 'a number too large' 3 'fault line 1 bad number\n' 'put 100000000000000000
 check 'the first bad line' 3 'fault line 2 unknown word\n' 'get 1\nGet 1\nput\n'
 check 'a second client' 0 '1 2.1 get 1 = none\nleft 0\nend\n' 'client 2\nget 1\n'
 
+check 'a summary' 0 '2 lines\nend\n' 'put 2 2\nput 1 1\n' --summary --shape
+check 'a run of a made script' 0 '16000 lines\nend\n' 'no script' --made 7 --tree avl --summary
+check 'a seed that is no number' 2 'fault usage\n' '' --made +1
+verdict 'a made run does not wait for its input' "$(printf '16000 lines\nend')" \
+    "$(sleep 5 | timeout 4 bin/pathmap --made 7 --summary)"
+
+# makes NAME STATUS OUTPUT [WORD..]
+makes() {
+    local name=$1 status=$2 output=$3
+    shift 3
+    verdict "$name" "$(printf '%b' "${output}status $status")" "$(bin/pathmap_make "$@" 2>/dev/null; echo "status $?")"
+}
+
+bin/pathmap_make 0 1 1 >/dev/null || { echo 'FAILED: pathmap_make is not built'; exit 1; }
+makes 'three commands' 0 'client 1\nceil 758\nput 515 31051\nget 10\n' 0 1 3
+makes 'numbers with zeros in front' 0 'client 1\nceil 758\n' 00 01 001
+makes '33 clients' 2 'fault usage\n' 0 33 3
+makes 'more than 60,000 commands' 2 'fault usage\n' 0 32 1876
+makes 'no words' 2 'fault usage\n'
+makes 'a number with a sign' 2 'fault usage\n' +1 1 3
+makes 'a word that is not UTF-8 for a seed' 2 'fault usage\n' $'\xff' 1 3
+verdict 'a made script is run as any other' "$(printf '80 lines\nend')" \
+    "$(bin/pathmap_make 7 4 20 | bin/pathmap --tree avl --summary)"
+
 if [ -w /dev/full ]; then
+    verdict 'a script to an output that is full' 5 "$(bin/pathmap_make 0 1 3 2>/dev/null >/dev/full; echo $?)"
     verdict 'an output that is full' 5 "$(printf 'put 5 50\n' | bin/pathmap 2>/dev/null >/dev/full; echo $?)"
 fi
 verdict 'an input one byte too long is answered without its rest' "$(printf 'fault input too large\n6')" \

@@ -475,7 +475,12 @@ fn crowd_is_right<R: Threads + Wait + Sync>(
     tree: TreeKind,
     seed: u32,
 ) -> bool {
-    let options = Options { tree, shape: false };
+    let options = Options {
+        tree,
+        shape: false,
+        summary: false,
+        made: None,
+    };
     match crowd(alloc, seed) {
         Ok(text) if text.len() <= MOST_BYTES => match read_script(alloc, &text) {
             Ok(script) => match run_script(rt, alloc, options, &script, &OpenGate) {
