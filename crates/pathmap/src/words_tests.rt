@@ -58,12 +58,7 @@ const COMMANDS: &[Command] = &[
     ),
     // A summary has no shape.
     (&["pathmap", "--summary"], 0, 2, "2 lines\nend\n"),
-    (
-        &["pathmap", "--summary", "--shape"],
-        0,
-        2,
-        "2 lines\nend\n",
-    ),
+    (&["pathmap", "--summary", "--shape"], 0, 2, "2 lines\nend\n"),
     (
         &["pathmap", "--shape", "--tree=avl", "--summary"],
         0,
@@ -100,12 +95,7 @@ const COMMANDS: &[Command] = &[
         0,
         "fault usage\n",
     ),
-    (
-        &["pathmap", "--made=7", "--made=7"],
-        2,
-        0,
-        "fault usage\n",
-    ),
+    (&["pathmap", "--made=7", "--made=7"], 2, 0, "fault usage\n"),
 ];
 
 /// The words, the input, the reads that there were, and the output with a shape.

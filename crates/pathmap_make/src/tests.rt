@@ -45,7 +45,10 @@ fn strings_of(alloc: Global, words: &[&str]) -> Result<Vec<String>, AllocError> 
 
 // The status, and the first bytes that are held.
 fn ends_so(alloc: Global, words: &[&str], room: usize, status: u8, text: &[u8]) -> bool {
-    match (strings_of(alloc, words), MemorySink::with_room(alloc, room, 7)) {
+    match (
+        strings_of(alloc, words),
+        MemorySink::with_room(alloc, room, 7),
+    ) {
         (Ok(words), Ok(mut sink)) => {
             serve_make(&words, &mut sink) == status && sink.held.as_slice() == text
         }

@@ -88,9 +88,14 @@ short_number n small = length-decimal-le 18 n (omega arith) (omega arith) (omega
 short_command : (call : Call) → IsCallInRange call → length (call_text call) ≤ 48
 unfolding call_text
 short_command (Put key value) in_range =
-    omega (arith, length-append (codes "put " ++ decimal key ++ codes " ") (decimal value),
-    length-append (codes "put " ++ decimal key) (codes " "), length-append (codes "put ") (decimal key),
-    short_number key in_range.0, short_number value in_range.1)
+    omega (
+      arith,
+      length-append (codes "put " ++ decimal key ++ codes " ") (decimal value),
+      length-append (codes "put " ++ decimal key) (codes " "),
+      length-append (codes "put ") (decimal key),
+      short_number key in_range.0,
+      short_number value in_range.1,
+    )
 short_command (Get key) in_range = omega (arith, short_number key in_range)
 short_command (Remove key) in_range = omega (arith, short_number key in_range)
 short_command (Ceil key) in_range = omega (arith, short_number key in_range)
@@ -100,14 +105,23 @@ short_text : (calls : List Call) → All IsCallInRange calls → length (text_of
 short_text [] in_range = omega arith
 short_text (call ∷ calls) in_range =
     let here : IsCallInRange call = in_range 0 call (omega arith) in
-    omega (arith, short_command call here, short_text calls (λ k d below. in_range (suc k) d (omega arith)),
-    length-append (call_text call ++ codes "\n") (text_of calls), length-append (call_text call) (codes "\n"))
+    omega (
+      arith,
+      short_command call here,
+      short_text calls (λ k d below. in_range (suc k) d (omega arith)),
+      length-append (call_text call ++ codes "\n") (text_of calls),
+      length-append (call_text call) (codes "\n"),
+    )
 
 short_turn : (client : ℕ) → client ≤ GREATEST_NUMBER → length (client_line client) ≤ 26
 unfolding client_line
 short_turn client small =
-    omega (arith, short_number client small, length-append (codes "client " ++ decimal client) (codes "\n"),
-    length-append (codes "client ") (decimal client))
+    omega (
+      arith,
+      short_number client small,
+      length-append (codes "client " ++ decimal client) (codes "\n"),
+      length-append (codes "client ") (decimal client),
+    )
 
 short_clients : (client : ℕ) (lists : List (List Call)) → client + length lists ≤ GREATEST_NUMBER → AreInRange lists
     → length (clients_text client lists)
@@ -115,11 +129,15 @@ short_clients : (client : ℕ) (lists : List (List Call)) → client + length li
 short_clients client [] few in_range = omega arith
 short_clients client (calls ∷ lists) few in_range =
     let here : All IsCallInRange calls = in_range 0 calls (omega arith) in
-    omega (arith, short_turn client (omega arith), short_text calls here,
-    short_clients (client + 1) lists (omega arith) (λ k d below. in_range (suc k) d (omega arith)),
-    sum_by-cons (λ (c : List Call). length c) calls lists,
-    length-append (client_line client ++ text_of calls) (clients_text (client + 1) lists),
-    length-append (client_line client) (text_of calls))
+    omega (
+      arith,
+      short_turn client (omega arith),
+      short_text calls here,
+      short_clients (client + 1) lists (omega arith) (λ k d below. in_range (suc k) d (omega arith)),
+      sum_by-cons (λ (c : List Call). length c) calls lists,
+      length-append (client_line client ++ text_of calls) (clients_text (client + 1) lists),
+      length-append (client_line client) (text_of calls),
+    )
 
 -- a made script is no longer than an input may be
 pub made_is_short : (seed clients commands : ℕ) → clients ≤ MOST_CLIENTS → clients * commands ≤ MOST_COMMANDS
@@ -128,8 +146,12 @@ unfolding made_script
 made_is_short seed clients commands few short =
     let lists = made_lists seed clients commands in
     let many : length lists ≡ clients = length-map-range_with_len (made_commands seed commands) 1 clients in
-    omega (arith, short_clients 1 lists (omega arith) (lists_in_range seed commands 1 clients),
-    count_in seed commands 1 clients, many)
+    omega (
+      arith,
+      short_clients 1 lists (omega arith) (lists_in_range seed commands 1 clients),
+      count_in seed commands 1 clients,
+      many,
+    )
 
 -- ---- what is to be written next
 

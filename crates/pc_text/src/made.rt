@@ -29,12 +29,7 @@ const ROOM: usize = 64;
 /// The script that a seed makes, of so many clients with so many commands each: the clients' lines in order, each
 /// with the commands of that client behind it. The seed is at most 999999999999999999, there are 1 to 32 clients with
 /// at least one command each, and at most 60,000 commands together. `Memory` where there is none for the script.
-pub fn make_script(
-    alloc: Global,
-    seed: u64,
-    clients: u32,
-    commands: u32,
-) -> Result<Vec<u8>, Memory>
+pub fn make_script(alloc: Global, seed: u64, clients: u32, commands: u32) -> Result<Vec<u8>, Memory>
     requires seed { seed ≤ GREATEST_NUMBER }
     requires clients { IsInRange 1 MOST_CLIENTS clients }
     requires commands { 1 ≤ commands }
