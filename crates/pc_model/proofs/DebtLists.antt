@@ -4,11 +4,11 @@ use Rattle.std.proofs.Common.{not, ◌||◌, List, [], ◌∷◌, ◌++◌, leng
 use Rattle.std.proofs.Common.{Option, Some, None, refl, ap, sym, ◌∙◌, arith}
 use Rattle.std.proofs.lemmas.Bool.{cond_both, cases_eq, cases_lt, eq-eqb, eqb-true, ltb-false}
 use Rattle.std.proofs.lemmas.Bool.Decides.{nat_tests}
-use Rattle.std.proofs.lemmas.List.{take-append-drop, take-append-le, length-take-le}
-use Rattle.std.proofs.lemmas.Slice.{put_mid-rotated}
+use Rattle.std.proofs.lemmas.List.{take-append-drop, length-take-le, length-drop, drop-set}
 use borrow.Rule.Slice.PartMut.{mid_of, put_mid}
 use Rattle.std.proofs.lemmas.List.Quantifiers.{position-Some}
-use Rattle.std.proofs.Math.Seq.{take-suc, take-length}
+use Rattle.std.proofs.Math.ListN.{set}
+use Rattle.std.proofs.Math.Seq.{take-suc, take-length, drop-append-add, drop-append_seam}
 use Rattle.std.proofs.lemmas.List.Folds.{list_any-append, list_any_at}
 use Rattle.std.proofs.lemmas.Iterator.Adapters.{position_from-zero}
 use Rattle.std.specs.List.{remove, position, position_from}
@@ -68,17 +68,11 @@ length-without_key k (x ∷ keys) there =
 
 -- Different keys
 
-has-take_fewer : (k n m : ℕ) (keys : List ℕ) → n ≤ m → has k (take m keys) ≡ false → has k (take n keys) ≡ false
-has-take_fewer k n m keys le absent =
-    subst (λ (l : List ℕ). has k l ≡ false) (take-take-le n m keys le) (has-take k n (take m keys) absent)
-
--- fewer of the first keys are different too
-pub different_fewer : (n m : ℕ) (keys : List ℕ) → n ≤ m → AreDifferent (take m keys) → AreDifferent (take n keys)
-different_fewer zero m keys le different = tt
-different_fewer (suc n) zero keys le different = absurd (omega arith)
-different_fewer (suc n) (suc m) [] le different = tt
-different_fewer (suc n) (suc m) (k ∷ keys) le different =
-    (has-take_fewer k n m keys (omega arith) different.0, different_fewer n m keys (omega arith) different.1)
+-- some of the first keys are different too
+pub different_take : (n : ℕ) (keys : List ℕ) → AreDifferent keys → AreDifferent (take n keys)
+different_take zero keys different = tt
+different_take (suc n) [] different = tt
+different_take (suc n) (k ∷ keys) different = (has-take k n keys different.0, different_take n keys different.1)
 
 has-without_key_absent : (q k : ℕ) (keys : List ℕ) → has q keys ≡ false → has q (without_key k keys) ≡ false
 has-without_key_absent q k [] absent = refl
@@ -118,33 +112,114 @@ absent_from k i (x ∷ keys) none = let rest : position_from (λ y. y == k) (i +
 pub absent_from_position : (k : ℕ) (keys : List ℕ) → position (λ x. x == k) keys ≡ None → has k keys ≡ false
 absent_from_position k keys none = absent_from k 0 keys (sym (position_from-zero (λ x. x == k) keys) ∙ none)
 
-take-remove : (i n : ℕ) (xs ys : List ℕ) → i ≤ n → n < length xs
-    → take n (remove xs i ++ ys) ≡ remove (take (suc n) xs) i
-take-remove i n [] ys le few = absurd (omega arith)
-take-remove zero n (x ∷ xs) ys le few = take-append-le n xs ys (omega arith)
-take-remove (suc i) zero (x ∷ xs) ys le few = absurd (omega arith)
-take-remove (suc i) (suc n) (x ∷ xs) ys le few =
-    ap (λ (l : List ℕ). x ∷ l) (take-remove i n xs ys (omega arith) (omega arith))
+-- An array of which the last are the list
 
--- An array of which the first are the list
+take-one : (i : ℕ) (keys : List ℕ) → i < length keys → drop i (take (suc i) keys) ≡ get_or keys i 0 ∷ []
+take-one i [] inside = absurd (omega arith)
+take-one zero (k ∷ keys) inside = refl
+take-one (suc i) (k ∷ keys) inside = take-one i keys (omega arith)
 
--- where the rest from the place of a key on is turned by one, one fewer of the array are the list without the key
-pub released_list : (array part : List ℕ) (count place k : ℕ) → length array ≡ 64 → count ≤ 64
-    → position (λ x. x == k) (take count array) ≡ Some place → AreDifferent (take count array)
-    → part ≡ drop 1 (mid_of place (64 - place) array) ++ take 1 (mid_of place (64 - place) array)
-    → take (count - 1) (put_mid place (64 - place) array part) ≡ without_key k (take count array)
-released_list array part count place k long few found different turned =
-    let at = position-Some (λ x. x == k) (take count array) place 0 found in
-    let length_is : length (take count array) ≡ count = length-take-le count array (omega arith) in
-    let inside : place < count = omega (arith, at.0) in
-    let one : suc (count - 1) ≡ count = omega arith in
-    let whole : put_mid place (64 - place) array part ≡ remove array place ++ (get_or array place 0 ∷ []) =
-    put_mid-rotated place (64 - place) array part 0 (omega arith) (omega arith) turned in
-    ap (take (count - 1)) whole
-    ∙ take-remove place (count - 1) array (get_or array place 0 ∷ []) (omega arith) (omega arith)
-    ∙ ap (λ n. remove (take n array) place) one
-    ∙ remove-is_without_key place k (take count array) different at.0
-    (eqb-true (get_or (take count array) place 0) k at.1)
+-- where the first of a list are turned by one, the last of them stands before the others
+turned_part : (i : ℕ) (keys rest : List ℕ) → i < length keys
+    → drop 1 ((drop i (take (suc i) keys) ++ take i (take (suc i) keys)) ++ rest) ≡ take i keys ++ rest
+turned_part i keys rest inside =
+    rw (take-one i keys inside, take-take-le i (suc i) keys (omega arith)) refl
+
+released_by : (array part : List ℕ) (front place k : ℕ) → length array ≡ 64 → front ≤ 64
+    → position (λ x. x == k) (drop front array) ≡ Some place → AreDifferent (drop front array)
+    → part ≡ drop place (mid_of front (suc place) array) ++ take place (mid_of front (suc place) array)
+    → drop (suc front) (put_mid front (suc place) array part) ≡ without_key k (drop front array)
+released_by array part front place k long few found different turned =
+    let keys : List ℕ = drop front array in
+    let at = position-Some (λ x. x == k) keys place 0 found in
+    let length_is : length (take front array) ≡ front = length-take-le front array (omega arith) in
+    let behind : drop (length (take front array) + 1) (take front array ++ (part ++ drop (suc place) keys))
+    ≡ drop 1 (part ++ drop (suc place) keys) = drop-append-add (take front array) (part ++ drop (suc place) keys) 1 in
+    let one : length (take front array) + 1 ≡ suc front = omega (arith, length_is) in
+    subst (λ n. drop n (put_mid front (suc place) array part) ≡ drop 1 (part ++ drop (suc place) keys)) one behind
+    ∙ ap (λ (p : List ℕ). drop 1 (p ++ drop (suc place) keys)) turned
+    ∙ turned_part place keys (drop (suc place) keys) at.0
+    ∙ remove-is_without_key place k keys different at.0 (eqb-true (get_or keys place 0) k at.1)
+
+-- where the part from the front to the place of a key is turned by one, what stands behind its first are the keys
+-- without that one
+pub released_list : (array part : List ℕ) (front place size k : ℕ) → length array ≡ 64 → front ≤ 64
+    → position (λ x. x == k) (drop front array) ≡ Some place → AreDifferent (drop front array) → size ≡ suc place
+    → part ≡ drop (length (mid_of front size array) - 1) (mid_of front size array)
+    ++ take (length (mid_of front size array) - 1) (mid_of front size array)
+    → drop (front + 1) (put_mid front size array part) ≡ without_key k (drop front array)
+released_list array part front place size k long few found different size_is turned =
+    let at = position-Some (λ x. x == k) (drop front array) place 0 found in
+    let mid : List ℕ = mid_of front (suc place) array in
+    let long_mid : length mid ≡ suc place = length-take-le (suc place) (drop front array) (omega (arith, at.0)) in
+    let last : length mid - 1 ≡ place = omega (arith, long_mid) in
+    let sized : part ≡ drop (length mid - 1) mid ++ take (length mid - 1) mid
+    = subst (λ s. part ≡ drop (length (mid_of front s array) - 1) (mid_of front s array)
+    ++ take (length (mid_of front s array) - 1) (mid_of front s array)) size_is turned in
+    let one : suc front ≡ front + 1 = omega arith in
+    subst (λ n. drop n (put_mid front size array part) ≡ without_key k (drop front array)) one
+    (subst (λ s. drop (suc front) (put_mid front s array part) ≡ without_key k (drop front array)) (sym size_is)
+    (released_by array part front place k long few found different (sized ∙ ap (λ n. drop n mid ++ take n mid) last)))
+
+-- where a key has a place there is a front
+pub has_front : (array : List ℕ) (front place k : ℕ) → length array ≡ 64
+    → position (λ x. x == k) (drop front array) ≡ Some place → front < 64
+has_front array front place k long found =
+    let at = position-Some (λ x. x == k) (drop front array) place 0 found in
+    omega (arith, at.0, length-drop front array)
+
+-- where another key comes before the front
+pub pushed_list : (array : List ℕ) (front k : ℕ) → length array ≡ 64 → front ≤ 64 → 0 < front
+    → drop (front - 1) (set array (front - 1) k) ≡ k ∷ drop front array
+pushed_list array front k long few some =
+    let one : (front - 1) + 1 ≡ front = omega arith in
+    drop-set array (front - 1) k (omega arith) ∙ ap (λ n. k ∷ drop n array) one
+
+-- where a full array is turned by one, what stands behind its first are all but the last
+pub turned_list : (array turned : List ℕ) → length array ≡ 64 → turned ≡ drop 63 array ++ take 63 array
+    → drop 1 turned ≡ take 63 array
+turned_list array turned long is =
+    let one : length (drop 63 array) ≡ 1 = length-drop 63 array ∙ ap (λ n. n - 63) long in
+    ap (drop 1) is ∙ subst (λ n. drop n (drop 63 array ++ take 63 array) ≡ take 63 array) one
+    (drop-append_seam (drop 63 array) (take 63 array))
+
+-- room is made in a full array
+pub room_made : (array turned : List ℕ) (front : ℕ) (from : Option ℕ) (d : Debts) → length array ≡ 64 → front ≤ 0
+    → ◌≡◌ {A = Debts} (record { keys = drop front array; from = from }) d
+    → turned ≡ drop (length array - 1) array ++ take (length array - 1) array
+    → ◌≡◌ {A = Debts} (record { keys = drop 1 turned; from = lowered (slice_index array 63) from }) (with_room d)
+room_made array turned front from d long none view is =
+    let zeroth : front ≡ 0 = omega arith in
+    let whole : ◌≡◌ {A = Debts} (record { keys = array; from = from }) d
+    = subst (λ n. ◌≡◌ {A = Debts} (record { keys = drop n array; from = from }) d) zeroth view in
+    let by_one : turned ≡ drop 63 array ++ take 63 array
+    = subst (λ n. turned ≡ drop (n - 1) array ++ take (n - 1) array) long is in
+    let full : with_room (record { keys = array; from = from })
+    ≡ record { keys = take 63 array; from = lowered (slice_index array 63) from } = rw long refl in
+    ap (λ (keys : List ℕ). record { keys = keys; from = lowered (slice_index array 63) from })
+    (turned_list array turned long by_one)
+    ∙ sym full ∙ ap with_room whole
+
+-- and the keys that are left are different
+pub different_made : (array turned : List ℕ) (front : ℕ) → length array ≡ 64 → front ≤ 0
+    → AreDifferent (drop front array) → turned ≡ drop (length array - 1) array ++ take (length array - 1) array
+    → AreDifferent (drop 1 turned)
+different_made array turned front long none different is =
+    let zeroth : front ≡ 0 = omega arith in
+    let whole : AreDifferent array = subst (λ n. AreDifferent (drop n array)) zeroth different in
+    let by_one : turned ≡ drop 63 array ++ take 63 array
+    = subst (λ n. turned ≡ drop (n - 1) array ++ take (n - 1) array) long is in
+    subst AreDifferent (sym (turned_list array turned long by_one)) (different_take 63 array whole)
+
+pub few_made : (array turned : List ℕ) → length array ≡ 64
+    → turned ≡ drop (length array - 1) array ++ take (length array - 1) array → length (drop 1 turned) < 64
+few_made array turned long is =
+    let by_one : turned ≡ drop 63 array ++ take 63 array
+    = subst (λ n. turned ≡ drop (n - 1) array ++ take (n - 1) array) long is in
+    let left : drop 1 turned ≡ take 63 array = turned_list array turned long by_one in
+    let few : length (drop 1 turned) ≡ 63
+    = ap (λ (l : List ℕ). length l) left ∙ length-take-le 63 array (omega (arith, long)) in
+    omega (arith, few)
 
 -- The number
 

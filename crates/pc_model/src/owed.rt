@@ -29,23 +29,25 @@ pub enum Owing {
 /// The most keys that are told one by one.
 const MOST_KEYS: usize = 64;
 
-/// What a client owes: at most 64 different keys, and perhaps every key from a number on.
+/// What a client owes: at most 64 different keys, and perhaps every key from a number on. The keys stand at the end of
+/// the array, so that no other moves where one comes to the front or leaves it.
 #[derive(Drop)]
 pub struct Owed {
     keys: [u64; 64],
-    count: usize,
+    /// The place of the front; 64 where there are no keys.
+    front: usize,
     from: Option<u64>,
 }
 
 impl Model for Owed {
-    ghost use Rattle.std.specs.Prelude.{◌≤◌, take};
+    ghost use Rattle.std.specs.Prelude.{◌≤◌, drop};
     ghost use Rattle.pc_model.specs.Debts.{Debts, AreDifferent};
 
     ghost Value = { Debts };
 
-    ghost view = { λ o. record { keys = take o.count o.keys; from = o.from } };
+    ghost view = { λ o. record { keys = drop o.front o.keys; from = o.from } };
 
-    ghost invariant = { λ o. (o.count ≤ 64) × AreDifferent (take o.count o.keys) };
+    ghost invariant = { λ o. (o.front ≤ 64) × AreDifferent (drop o.front o.keys) };
 }
 
 impl Owed {
@@ -58,7 +60,7 @@ impl Owed {
     {
         Owed {
             keys: [0; 64],
-            count: 0,
+            front: MOST_KEYS,
             from: None,
         }
     }
@@ -97,8 +99,9 @@ impl Owed {
         let Some(place) = self.place_of(key) else {
             return;
         };
-        self.keys[place..].rotate_left(1);
-        self.count -= 1;
+        let behind = self.front + place + 1;
+        self.keys[self.front..behind].rotate_right(1);
+        self.front += 1;
     }
 
     /// Owes every key from another number on, or none by its number.
@@ -136,7 +139,7 @@ impl Owed {
         ensures few { length result.now ≤ 64 }
         ensures different { AreDifferent result.now }
     {
-        &self.keys[..self.count]
+        &self.keys[self.front..]
     }
 
     /// The number from which on every key is owed.
@@ -167,9 +170,8 @@ impl Owed {
         requires another { has key self.old.keys ≡ false }
         ensures { self.new ≡ record self.old { keys = key ∷ self.old.keys } }
     {
-        self.keys[self.count] = key;
-        self.count += 1;
-        self.keys[..self.count].rotate_right(1);
+        self.front -= 1;
+        self.keys[self.front] = key;
     }
 
     // Makes room for a key: the last key of a full list leaves it, and every key from it on is owed.
@@ -177,11 +179,12 @@ impl Owed {
         ensures made { self.new ≡ with_room self.old }
         ensures room { length self.new.keys < 64 }
     {
-        if self.count < MOST_KEYS {
+        if self.front > 0 {
             return;
         }
-        self.count -= 1;
-        let last = self.keys[self.count];
+        let last = self.keys[MOST_KEYS - 1];
+        self.keys.rotate_right(1);
+        self.front = 1;
         self.lower(last);
     }
 
