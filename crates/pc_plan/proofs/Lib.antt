@@ -4,6 +4,7 @@ pub mod Descending
 pub mod FittingPlans
 pub mod LawfulNodes
 pub mod Learning
+pub mod Legs
 pub mod NodeStays
 pub mod NodeWords
 pub mod Quiets

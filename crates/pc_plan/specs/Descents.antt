@@ -1,9 +1,10 @@
 -- A walk that passes nodes on cells that stand still, a node at once.
-use Rattle.std.specs.Prelude.{◌≡◌, ℕ, zero, suc, ◌==◌, if◌then◌else◌, [], ◌∷◌, Option, Some, None}
+use Rattle.std.specs.Prelude.{◌≡◌, ℕ, zero, suc, ◌==◌, ◌⊎◌, if◌then◌else◌, [], ◌∷◌, Option, Some, None}
 use Rattle.pc_model.specs.declared.cell.Field.TheVariants.{Version as VersionField, Key as KeyField, Left as LeftLink}
 use Rattle.pc_model.specs.declared.cell.Side.{Side}
 use Rattle.pc_model.specs.declared.cell.Side.TheVariants.{Left, Right}
 use Rattle.pc_model.specs.Cells.{Cells, IsNode, node_at}
+use Rattle.pc_model.specs.Sides.{link_of}
 use Rattle.pc_model.specs.Debts.{has}
 use Rattle.pc_plan.specs.declared.descent.Descent.{Descent}
 use Rattle.pc_plan.specs.declared.plan.Told.{Told}
@@ -47,6 +48,37 @@ passing c d = if c d.walk.node KeyField == d.walk.key then None
 abbrev pub Passes : Cells → Descent → ℕ → Descent → Type 0
 Passes c d zero e = d ≡ e
 Passes c d (suc m) e = (b : Descent) × Passes c d m b × (passing c b ≡ Some e)
+
+-- The same by the nodes alone: a link of a node leads on where it names another, and not the sentinel.
+abbrev pub onward : ℕ → Option ℕ → Option ℕ
+onward n None = None
+onward n (Some b) = if has b (n ∷ 1 ∷ []) then None else Some b
+
+-- the node below one on the way to a key
+abbrev pub node_below : Cells → ℕ → ℕ → Option ℕ
+node_below c key n = if c n KeyField == key then None
+    else onward n (node_at (c n (link_of (side_toward key (c n KeyField)))))
+
+-- the way to a key leads from a node past so many nodes to another
+abbrev pub Leads : Cells → ℕ → ℕ → ℕ → ℕ → Type 0
+Leads c key n zero b = n ≡ b
+Leads c key n (suc m) b = (a : ℕ) × Leads c key n m a × (node_below c key a ≡ Some b)
+
+-- it leads to this node, and where some were passed, from that one above
+abbrev pub IsLeg : Cells → ℕ → ℕ → ℕ → ℕ → Type 0
+IsLeg c key n a b = (n ≡ b) ⊎ ((m : ℕ) × Leads c key n m a × (node_below c key a ≡ Some b))
+
+-- the version that a walk knows of the node that it visits, and else what stands there
+abbrev pub version_at : Cells → Descent → ℕ → ℕ
+version_at c d n = if n == d.walk.node then d.version else c n VersionField
+
+-- a walk at its visit of a node below another
+abbrev pub leg_visit : Cells → Descent → ℕ → ℕ → Descent
+leg_visit c d a b = visit_below c d.walk.key b (record {
+  node = a;
+  side = side_toward d.walk.key (c a KeyField);
+  version = version_at c d a;
+}) (c a KeyField)
 
 -- from the sentinel it visits the root, if there is one
 abbrev pub entered : Cells → Walk → ℕ → ℕ → Descent

@@ -2,7 +2,8 @@
 ghost use Rattle.std.specs.Prelude.{◌≡◌, ℕ, Some, IfSome};
 ghost use Rattle.pc_model.specs.Cells.{IsNode, node_at};
 ghost use Rattle.pc_model.specs.declared.cell.Field.TheVariants.{Left as LeftLink};
-ghost use Rattle.pc_plan.specs.Descents.{on_side, visit_below, passing, entering, way_down, Passes};
+ghost use Rattle.pc_plan.specs.Descents.{on_side, visit_below, entering, way_down, Passes};
+ghost use Rattle.pc_plan.specs.Descents.{Leads, IsLeg, node_below, onward, leg_visit, version_at};
 ghost use Rattle.pc_plan.specs.Descents.{HasDescended, DescendsByNodes};
 
 use crate::plan::Told;
@@ -112,47 +113,104 @@ impl Descent {
             → IsNode (C.slots cells.now) d.walk.node }
         ensures { (m : ℕ) × Passes (C.cells cells.now) self m result }
     {
-        let mut descent = self;
-        for _pass in 0..MOST_PASSES {
-            match descent.pass(cells) {
-                Some(below) => descent = below,
-                None => return descent,
-            }
+        let leg = way_from(self.walk.key, self.walk.node, cells);
+        if leg.node == self.walk.node {
+            return self;
         }
-        descent
+        self.at_leg(leg, cells)
     }
 
-    /// Passes the node that the walk visits, where it has another key and its link leads on. Both links are read and
-    /// tested, so that neither waits for the key.
+    /// The walk at its visit of the node that a leg of its way leads to.
     #[inline(always)]
-    fn pass<C: StillCells>(&self, cells: &C) -> Option<Descent>
-        requires node { IsNode (C.slots cells.now) self.now.walk.node }
-        requires below { (d : Descent) → passing (C.cells cells.now) self.now ≡ Some d
-            → IsNode (C.slots cells.now) d.walk.node }
-        ensures { result ≡ passing (C.cells cells.now) self.now }
+    fn at_leg<C: StillCells>(self, leg: Leg, cells: &C) -> Descent
+        requires above { IsNode (C.slots cells.now) leg.above }
+        requires node { IsNode (C.slots cells.now) leg.node }
+        ensures { result ≡ leg_visit (C.cells cells.now) self leg.above leg.node }
     {
-        let node = self.walk.node;
-        let key = cells.word(node, Field::Key);
-        if key == self.walk.key {
-            return None;
-        }
-        let (left, right) = (
-            cells.word(node, Field::Left),
-            cells.word(node, Field::Right),
-        );
-        if left == 0 && right == 0 {
-            return None;
-        }
-        let side = side_toward(self.walk.key, key);
-        let below = node_of(on_side(side, left, right))?;
-        if leads_back(below, &[node, SENTINEL]) {
-            return None;
-        }
+        let key = cells.word(leg.above, Field::Key);
         let above = Above {
-            node,
-            side,
-            version: self.version,
+            node: leg.above,
+            side: side_toward(self.walk.key, key),
+            version: self.version_at(leg.above, cells),
         };
-        Some(Descent::at(self.walk.key, below, above, key, cells))
+        Descent::at(self.walk.key, leg.node, above, key, cells)
     }
+
+    /// The version of a node: what the walk was told of the one that it visits, and else what stands there.
+    #[inline(always)]
+    fn version_at<C: StillCells>(&self, node: u32, cells: &C) -> u64
+        requires { IsNode (C.slots cells.now) node }
+        ensures { result ≡ version_at (C.cells cells.now) self.now node }
+    {
+        if node == self.walk.node {
+            self.version
+        } else {
+            cells.word(node, Field::Version)
+        }
+    }
+}
+
+/// The last nodes of a way down: the one that it leads to, and the one above, if nodes were passed. The way keeps no
+/// more, so that the machine keeps it out of memory.
+#[derive(Clone, Copy)]
+struct Leg {
+    above: u32,
+    node: u32,
+}
+
+/// The way to a key from a node down, past nodes with other keys.
+#[inline(never)]
+fn way_from<C: StillCells>(key: u64, node: u32, cells: &C) -> Leg
+    requires { (m : ℕ) (n : ℕ) → Leads (C.cells cells.now) key node m n → IsNode (C.slots cells.now) n }
+    ensures { IsLeg (C.cells cells.now) key node result.above result.node }
+{
+    let mut leg = Leg { above: 0, node };
+    for _pass in 0..MOST_PASSES {
+        match node_below(key, leg.node, cells) {
+            Some(below) => {
+                leg = Leg {
+                    above: leg.node,
+                    node: below,
+                }
+            }
+            None => return leg,
+        }
+    }
+    leg
+}
+
+/// The node below one on the way to a key, where the node has another key and its link leads on. Both links are read
+/// and tested, so that neither waits for the key.
+#[inline(always)]
+fn node_below<C: StillCells>(key: u64, node: u32, cells: &C) -> Option<u32>
+    requires { IsNode (C.slots cells.now) node }
+    ensures { result ≡ node_below (C.cells cells.now) key node }
+{
+    let here = cells.word(node, Field::Key);
+    if here == key {
+        return None;
+    }
+    let (left, right) = (
+        cells.word(node, Field::Left),
+        cells.word(node, Field::Right),
+    );
+    if left == 0 && right == 0 {
+        return None;
+    }
+    leading_on(node, on_side(side_toward(key, here), left, right))
+}
+
+/// The node that a link of a node names, where it leads on.
+#[inline(always)]
+fn leading_on(node: u32, link: u64) -> Option<u32>
+    ensures { result ≡ onward node (node_at link) }
+{
+    if link <= 1 || link > 0xffff_ffff {
+        return None;
+    }
+    let below = link as u32;
+    if below == node {
+        return None;
+    }
+    Some(below)
 }
