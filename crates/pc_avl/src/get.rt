@@ -4,7 +4,7 @@ ghost use Rattle.pc_plan.specs.Asking.{asked};
 
 use pc_bst::BstGet;
 use pc_model::{Call, Reply, Settle};
-use pc_plan::{Change, Plan, Told, Turn};
+use pc_plan::{Change, End, Plan, StillCells, Told, Turn};
 use std::marker::Model;
 
 /// The plan of a get.
@@ -50,8 +50,19 @@ impl Plan for AvlGet {
         }
     }
 
+    #[inline(always)]
     fn step(&mut self, told: Told, change: &mut Change) -> Turn {
         self.get.step(told, change)
+    }
+
+    #[inline(always)]
+    fn stride<C: StillCells>(
+        &mut self,
+        told: Told,
+        cells: &C,
+        change: &mut Change,
+    ) -> Result<Told, End> {
+        self.get.stride(told, cells, change)
     }
 
     fn entry(call: u64) -> Option<Call> {

@@ -1,4 +1,5 @@
 pub mod Ends
+pub mod GetDescents
 pub mod NoSlots
 pub mod PutDescents
 pub mod RemoveDescents

@@ -1,10 +1,12 @@
-//! The plan of a get: the walk, and where it finds the key, the value there.
+//! The plan of a get: the walk, and where it finds the key, the value there. On cells that stand still its walk passes
+//! nodes at once.
 ghost use Rattle.std.specs.Prelude.{◌≡◌};
 ghost use Rattle.pc_plan.specs.Asking.{asked};
-ghost use Rattle.pc_bst.specs.Gets.{get_walked, get_ended};
+ghost use Rattle.pc_plan.specs.Turns.{CanGoOn, GoesOn};
+ghost use Rattle.pc_bst.specs.Gets.{get_walked, get_ended, get_moves};
 
 use pc_model::{Call, Field, Reply, Settle};
-use pc_plan::{Change, Plan, Step, Told, Turn, Walk};
+use pc_plan::{Change, Descent, End, Plan, Step, StillCells, Told, Turn, Walk, tell};
 
 /// Where a get is.
 #[derive(Clone, Copy)]
@@ -30,7 +32,7 @@ impl Plan for BstGet {
     ghost use Rattle.pc_model.specs.Trees.{plain};
     ghost use Rattle.pc_model.specs.TreeForms.{tree_form};
     ghost use Rattle.pc_plan.specs.Terms.{map_terms};
-    ghost use Rattle.pc_bst.specs.Gets.{get_of, get_moves};
+    ghost use Rattle.pc_bst.specs.Gets.{get_of};
     ghost use Rattle.pc_bst.specs.GetLaws.{get_laws};
 
     type Call = u64;
@@ -54,12 +56,24 @@ impl Plan for BstGet {
         }
     }
 
+    #[inline(always)]
     fn step(&mut self, told: Told, _change: &mut Change) -> Turn {
         match (self.phase, told) {
             (GetPhase::Walking, told) => self.walk_on(told),
             (GetPhase::Reading, Told::Number(value)) => self.end(Reply::Value(value)),
             _ => self.end(Reply::None),
         }
+    }
+
+    #[inline(always)]
+    fn stride<C: StillCells>(
+        &mut self,
+        told: Told,
+        cells: &C,
+        change: &mut Change,
+    ) -> Result<Told, End> {
+        let next = self.descend(told, cells);
+        tell(self.step(next, change), cells)
     }
 
     fn entry(call: u64) -> Option<Call> {
@@ -74,6 +88,22 @@ impl Plan for BstGet {
 impl BstGet {
     ghost use Rattle.pc_plan.specs.Planned.{Planned};
     ghost use Rattle.pc_plan.specs.Walks.{walk_step};
+
+    /// Lets the walk pass nodes, where it is on its way down, and finds what it is to be told then.
+    #[inline(always)]
+    fn descend<C: StillCells>(&mut self, told: Told, cells: &C) -> Told
+        requires { CanGoOn get_moves (C.slots cells.now) (C.cells cells.now) (get_moves self.old told) }
+        ensures { GoesOn get_moves (C.cells cells.now) (get_moves self.old told) 0 self.new result }
+    {
+        let GetPhase::Walking = self.phase else {
+            return told;
+        };
+        let Some(descent) = Descent::of(self.walk, 0, told, cells) else {
+            return told;
+        };
+        self.walk = descent.walk;
+        Told::Version(descent.version)
+    }
 
     /// Tells the walk something, and asks for what it does next.
     #[inline]
