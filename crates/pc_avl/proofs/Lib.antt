@@ -1,3 +1,4 @@
+mod Closing
 pub mod NoSlots
 pub mod RemoveDescents
 pub mod RepairSlots

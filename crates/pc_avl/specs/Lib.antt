@@ -1,5 +1,6 @@
 pub mod BalanceTests
 pub mod Balances
+pub mod Closings
 pub mod Looks
 pub mod RemoveCourses
 pub mod RemoveEnds

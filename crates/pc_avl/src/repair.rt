@@ -1,9 +1,12 @@
 //! The repair of one node of a balanced tree, as a machine. It goes to the node, by a walk to its key or by a
 //! search for the nearest key from a number up, and looks at its children. Where their heights are close the
 //! node gets the height that they ask for; else the higher child is looked at, and what hangs below it, and
-//! the node is rotated. A node below that is out of balance itself is to be repaired first.
-ghost use Rattle.std.specs.Prelude.{◌≡◌, ◌<◌, length, IfOk, IfErr};
-ghost use Rattle.pc_model.specs.Cells.{node_at};
+//! the node is rotated. A node below that is out of balance itself is to be repaired first. On cells that stand still a
+//! repair that makes no rotation is told all at once.
+ghost use Rattle.std.specs.Prelude.{◌≡◌, ℕ, false, true, [], ◌∷◌, length, IfOk, IfErr, IfSome};
+ghost use Rattle.std.specs.Bool.{OnTrue};
+ghost use Rattle.pc_model.specs.Cells.{IsNode, node_at};
+ghost use Rattle.pc_model.specs.Debts.{has};
 ghost use Rattle.pc_model.specs.TreeForms.{height_over};
 ghost use Rattle.pc_plan.specs.Asking.{asked};
 ghost use Rattle.pc_plan.specs.Planned.{Planned};
@@ -17,10 +20,11 @@ ghost use Rattle.pc_avl.specs.Repairs.{seeks_inner, seeks_outer, leans, balanced
 ghost use Rattle.pc_avl.specs.Repairs.{seeks_left, after_look, looked, upper, going_down, going_to, finds};
 ghost use Rattle.pc_avl.specs.Repairs.{keeps_below, passes, begins_search, searched, walks_on, arrives, walked};
 ghost use Rattle.pc_avl.specs.Repairs.{repair_moves, changes};
+ghost use Rattle.pc_avl.specs.Closings.{IsBlank, height_at, number_of, closing};
 ghost use Rattle.pc_avl.specs.Looks.{look_step};
 
 use crate::look::{Look, LookStep, Looked, MISSING};
-use crate::repair_change::{height_over, opposite};
+use crate::repair_change::{height_over, opposite, reheight};
 use pc_model::{Field, Reply, Side};
 use pc_plan::{
     Above, Change, Descent, End, SENTINEL, Step, StillCells, Told, Turn, Walk, leads_back, node_of,
@@ -172,6 +176,56 @@ fn balanced_reply(aim: Aim, key: u64) -> Reply
     }
 }
 
+/// The number of the node that a link names, or 0.
+#[inline(always)]
+fn number_of(link: u64) -> u32
+    ensures { result ≡ number_of (node_at link) }
+{
+    match node_of(link) {
+        Some(node) => node,
+        None => 0,
+    }
+}
+
+/// The stored height of the node that a link names, unless that was met; where it names none, 0.
+#[inline(always)]
+fn height_at<C: StillCells>(link: u64, met: &[u32], cells: &C) -> Option<u64>
+    requires { IfSome (node_at link) (λ n. has n met.now ≡ false → IsNode (C.slots cells.now) n) }
+    ensures { result ≡ height_at (C.cells cells.now) met.now (node_at link) }
+{
+    let Some(node) = node_of(link) else {
+        return Some(0);
+    };
+    if leads_back(node, met) {
+        return None;
+    }
+    Some(cells.word(node, Field::Height))
+}
+
+/// How the repair of a node ends that hangs over nodes of these heights, where they are close.
+#[inline(always)]
+fn close_over(
+    aim: Aim,
+    above: Upper,
+    node: &Looked,
+    left: u64,
+    right: u64,
+    change: &mut Change,
+) -> Option<End>
+    ensures close { IfSome result (λ end. are_close left right ≡ true) }
+    ensures end { IfSome result (λ end. closing aim above node.now left right ≡ last_ask end change.new) }
+{
+    if !are_close(left, right) {
+        return None;
+    }
+    let height = height_over(left, right);
+    if node.height == height {
+        return Some(End::Answer(balanced_reply(aim, node.key)));
+    }
+    reheight(above, node, height, change);
+    Some(End::Exchange)
+}
+
 impl Upper {
     #[inline]
     fn of(node: &Looked, side: Side) -> Upper
@@ -229,8 +283,8 @@ impl Repair {
         }
     }
 
-    /// Takes some turns on cells that stand still: the way down of the walk to a key at once, or all that is left
-    /// of a look, and else one turn.
+    /// Takes some turns on cells that stand still: the way down of the walk to a key at once, and all that comes then
+    /// if the repair makes no rotation; or all that is left of a look; and else one turn.
     #[inline(always)]
     pub fn stride<C: StillCells>(
         &mut self,
@@ -245,10 +299,69 @@ impl Repair {
             ComesFrom repair_moves (C.cells cells.now) (repair_moves self.old told) (last_ask end change.new)) }
     {
         match self.phase {
-            RepairPhase::Walking => self.go_down(told, cells),
+            RepairPhase::Walking => self.go_all_the_way(told, cells, change),
             RepairPhase::Looking(place) => self.look_at_once(place, told, cells, change),
             _ => tell(self.step(told, change), cells),
         }
+    }
+
+    /// Goes down to the node with the key, and closes the repair there where that makes no rotation.
+    #[inline(always)]
+    fn go_all_the_way<C: StillCells>(
+        &mut self,
+        told: Told,
+        cells: &C,
+        change: &mut Change,
+    ) -> Result<Told, End>
+        requires walks { self.old.phase ≡ RepairPhase.Walking }
+        requires can { CanGoOn repair_moves (C.slots cells.now) (C.cells cells.now) (repair_moves self.old told) }
+        ensures goes_on { IfOk result
+            (GoesOn repair_moves (C.cells cells.now) (repair_moves self.old told) 1 self.new) }
+        ensures ends { IfErr result (λ end.
+            ComesFrom repair_moves (C.cells cells.now) (repair_moves self.old told) (last_ask end change.new)) }
+    {
+        let next = self.go_down(told, cells)?;
+        match self.close(next, cells, change) {
+            Some(end) => Err(end),
+            None => Ok(next),
+        }
+    }
+
+    /// How the repair ends where it looks at its node, has met no other than the one above, and makes no rotation.
+    #[inline(always)]
+    fn close<C: StillCells>(&self, told: Told, cells: &C, change: &mut Change) -> Option<End>
+        requires { CanGoOn repair_moves (C.slots cells.now) (C.cells cells.now) (repair_moves self.now told) }
+        ensures { IfSome result (λ end.
+            ComesFrom repair_moves (C.cells cells.now) (repair_moves self.now told) (last_ask end change.new)) }
+    {
+        let RepairPhase::Looking(place) = self.phase else {
+            return None;
+        };
+        let Place::Node = place else {
+            return None;
+        };
+        if !self.is_blank() {
+            return None;
+        }
+        let node = self.look.at_once(told, cells)?.seen;
+        let above = self.above.above.node;
+        let left = height_at(node.left, &[above, node.node], cells)?;
+        let right = height_at(node.right, &[above, node.node, number_of(node.left)], cells)?;
+        close_over(self.aim, self.above, &node, left, right, change)
+    }
+
+    /// Whether no node is kept but the one above.
+    #[inline(always)]
+    fn is_blank(&self) -> bool
+        ensures { OnTrue result (IsBlank self.now) }
+    {
+        self.last.above.node == 0
+            && self.left.node == 0
+            && self.right.node == 0
+            && self.outer.node == 0
+            && self.inner.node == 0
+            && self.near.node == 0
+            && self.far.node == 0
     }
 
     /// Passes the nodes on the walk to the key at once, and comes to the look at the node that has it.
@@ -509,7 +622,7 @@ impl Repair {
         if self.node.height == height {
             return self.answer(balanced_reply(self.aim, self.node.key));
         }
-        self.reheight(height, change);
+        reheight(self.above, &self.node, height, change);
         self.end()
     }
 

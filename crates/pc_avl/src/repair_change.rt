@@ -10,7 +10,7 @@ ghost use Rattle.pc_avl.specs.RepairChanges.{reheighting, rotating, rotating_twi
 ghost use Rattle.pc_avl.specs.Repairs.{child, sibling};
 
 use crate::look::Looked;
-use crate::repair::Repair;
+use crate::repair::{Repair, Upper};
 use pc_bst::charge_key_of;
 use pc_model::{Field, Reply, Side};
 use pc_plan::{Above, Change, To};
@@ -140,6 +140,17 @@ fn turn_whole(change: &mut Change, node: &Looked, side: Side, ends: Ends, parent
     renumber(change, node.node, Field::Height, node.height, height);
 }
 
+/// A node below this one gets another height.
+#[inline(never)]
+pub fn reheight(above: Upper, node: &Looked, height: u64, change: &mut Change)
+    ensures { change.new ≡ planned_by (reheighting above.above above.key node.now height) }
+{
+    change.restart(Reply::Was(node.key));
+    change.raise(node.node, node.version);
+    renumber(change, node.node, Field::Height, node.height, height);
+    charge_key_of(change, above.above.node, above.key);
+}
+
 impl Repair {
     /// The child of the node on the side that it leans to.
     #[inline]
@@ -161,17 +172,6 @@ impl Repair {
             Side::Left => &self.right,
             Side::Right => &self.left,
         }
-    }
-
-    /// The node gets another height.
-    pub fn reheight(&self, height: u64, change: &mut Change)
-        ensures { change.new ≡ planned_by (reheighting self.now.above.above self.now.above.key self.now.node height) }
-    {
-        let node = &self.node;
-        change.restart(Reply::Was(node.key));
-        change.raise(node.node, node.version);
-        renumber(change, node.node, Field::Height, node.height, height);
-        charge_key_of(change, self.above.above.node, self.above.key);
     }
 
     /// The child takes the node's place.
