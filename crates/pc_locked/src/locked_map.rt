@@ -90,6 +90,25 @@ impl LockedMap {
         }
     }
 
+    /// Makes a call as [`LockedMap::call`] does and, where it isn't refused, repairs until nothing is owed as
+    /// [`LockedMap::settle`] does, before any other call runs: the lock is taken once for both.
+    ///
+    /// No clause can tell what was done under the lock. Tests show what they show of the two.
+    pub fn call_and_settle<R: Wait>(
+        &self,
+        rt: &R,
+        pass: u32,
+        call: Call,
+    ) -> Result<Reply, LockedFault>
+        requires pass { IsInRange 1 32 pass }
+        requires call { IsCallInRange call }
+    {
+        match &self.kept {
+            Locked::Plain(lock) => call_and_settle_under(rt, lock, pass, call),
+            Locked::Balanced(lock) => call_and_settle_under(rt, lock, pass, call),
+        }
+    }
+
     /// Gives the map with its history, which no thread shares any more.
     pub fn into_state(self) -> LockedState
         ensures kind { result.kind ≡ self }
@@ -118,6 +137,22 @@ fn call_under<R: Wait, const KIND: u8>(
 /// Repairs until nothing is owed, under the lock.
 fn settle_under<R: Wait, const KIND: u8>(rt: &R, lock: &Mutex<Kept<KIND>>) {
     settle(rt, &mut lock.lock(rt).state);
+}
+
+/// Makes a call of the map under the lock, and repairs then until nothing is owed.
+fn call_and_settle_under<R: Wait, const KIND: u8>(
+    rt: &R,
+    lock: &Mutex<Kept<KIND>>,
+    pass: u32,
+    call: Call,
+) -> Result<Reply, LockedFault>
+    requires pass { IsInRange 1 32 pass }
+    requires call { IsCallInRange call }
+{
+    let mut kept = lock.lock(rt);
+    let reply = try_apply(&mut kept.state, pass, call)?;
+    settle(rt, &mut kept.state);
+    Ok(reply)
 }
 
 /// Takes the map out of what was under the lock.

@@ -72,10 +72,11 @@ impl Worker for Sharer<'_> {
     #[tactic(auto, using(pc_pool::proofs::UpTo::up_to_next))]
     fn step<R: Threads + Wait + Sync>(&mut self, rt: &R, number: u32) -> bool {
         let call = self.calls[number as usize - 1];
-        let is_made = self.map.call(rt, self.client, call).is_ok();
-        if is_made && may_owe(self.tree, call) {
-            self.map.settle(rt);
-        }
+        let is_made = if may_owe(self.tree, call) {
+            self.map.call_and_settle(rt, self.client, call).is_ok()
+        } else {
+            self.map.call(rt, self.client, call).is_ok()
+        };
         self.done = number;
         self.stopped = !is_made;
         is_made
