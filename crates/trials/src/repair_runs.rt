@@ -1,10 +1,10 @@
 //! Calls on a balanced tree that is paid for, and the pairs and the shape that are left.
-ghost use Rattle.std.specs.Prelude.{◌≤◌};
 ghost use Rattle.pc_text.specs.ScriptFacts.{IsCallInRange};
 
+use crate::shapes::{Line, has_keys, has_shape};
 use crate::tables::all_hold;
 use pc_locked::{LockedState, TreeKind, apply, open_state, pay};
-use pc_model::{Call, Memory};
+use pc_model::Call;
 use pc_plain::{pairs, shape};
 use std::alloc::Global;
 
@@ -14,9 +14,6 @@ enum Called {
     Put(u32),
     Remove(u32),
 }
-
-/// The depth, the key, the height and the balance of a node.
-type Line = (u32, u64, u32, i64);
 
 /// Calls that are paid one by one, calls that are paid together after them, the keys that are left, and the shape,
 /// each node before those below it.
@@ -77,34 +74,22 @@ fn are_paid_together(state: &mut LockedState, calls: &[Called]) -> bool {
     is_paid(state)
 }
 
-fn leaves(
-    alloc: Global,
-    state: &LockedState,
-    keys: &[u64],
-    wanted: &[Line],
-) -> Result<bool, Memory> {
-    let listed = pairs(alloc, state.cells())?;
-    let lines = shape(alloc, state.cells())?;
-    let found = lines
-        .iter()
-        .map(|line| (line.depth, line.key, line.height, line.balance));
-    let are_left = listed
-        .iter()
-        .copied()
-        .eq(keys.iter().map(|key| (*key, *key)));
-    Ok(are_left && found.eq(wanted.iter().copied()))
-}
-
-fn runs_so(alloc: Global, run: Run) -> Result<bool, Memory> {
-    let (first, then, keys, wanted) = run;
-    let mut state = open_state(alloc, TreeKind::Avl, 8, 16)?;
-    let granted = are_paid_one_by_one(&mut state, first) && are_paid_together(&mut state, then);
-    Ok(granted && leaves(alloc, &state, keys, wanted)?)
+fn runs_so(alloc: Global, run: Run) -> bool {
+    let (first, then, keys, lines) = run;
+    match open_state(alloc, TreeKind::Avl, 8, 16) {
+        Ok(mut state) => {
+            are_paid_one_by_one(&mut state, first)
+                && are_paid_together(&mut state, then)
+                && has_keys(alloc, &state, keys)
+                && has_shape(alloc, &state, lines)
+        }
+        Err(_) => false,
+    }
 }
 
 fn first_other_run(alloc: Global, runs: &[Run]) -> Option<usize> {
     for (i, run) in runs.iter().enumerate() {
-        if runs_so(alloc, *run) != Ok(true) {
+        if !runs_so(alloc, *run) {
             return Some(i);
         }
     }
@@ -288,26 +273,47 @@ const BELOW_FIRST: &[Run] = &[
     ),
 ];
 
-/// Whether a tree of a hundred keys, put in rising or in falling order, comes into balance once all is paid. More
-/// keys are charged than are told one by one.
-fn comes_into_balance(alloc: Global, rising: bool) -> Result<bool, Memory> {
-    let mut state = open_state(alloc, TreeKind::Avl, 100, 100)?;
+/// Puts a hundred keys, in rising or in falling order, and pays for them then. More keys are charged than are told
+/// one by one.
+fn are_paid_at_last(state: &mut LockedState, rising: bool) -> bool {
     for place in 1..=100u32 {
         let key = if rising { place } else { 101 - place };
-        if !is_granted(&mut state, Called::Put(key)) {
-            return Ok(false);
+        if !is_granted(state, Called::Put(key)) {
+            return false;
         }
     }
-    let paid = is_paid(&mut state);
-    let listed = pairs(alloc, state.cells())?;
-    let lines = shape(alloc, state.cells())?;
-    let are_left = listed
-        .iter()
-        .copied()
-        .eq((1..=100u64).map(|key| (key, key)));
-    let close = lines.iter().all(|line| (-1..=1).contains(&line.balance));
-    let low = lines.iter().all(|line| line.height <= 9);
-    Ok(paid && are_left && close && low)
+    is_paid(state)
+}
+
+fn has_hundred_keys(alloc: Global, state: &LockedState) -> bool {
+    match pairs(alloc, state.cells()) {
+        Ok(listed) => {
+            listed
+                .iter()
+                .copied()
+                .eq((1..=100u64).map(|key| (key, key)))
+        }
+        Err(_) => false,
+    }
+}
+
+fn is_balanced(alloc: Global, state: &LockedState) -> bool {
+    match shape(alloc, state.cells()) {
+        Ok(lines) => lines.iter().all(|line| (-1..=1).contains(&line.balance) && line.height <= 9),
+        Err(_) => false,
+    }
+}
+
+/// Whether a tree of a hundred keys comes into balance once all is paid.
+fn comes_into_balance(alloc: Global, rising: bool) -> bool {
+    match open_state(alloc, TreeKind::Avl, 100, 100) {
+        Ok(mut state) => {
+            are_paid_at_last(&mut state, rising)
+                && has_hundred_keys(alloc, &state)
+                && is_balanced(alloc, &state)
+        }
+        Err(_) => false,
+    }
 }
 
 #[test]
@@ -319,9 +325,5 @@ fn what_is_paid_for_comes_into_balance(rt: HostRuntime) {
         first_other_run(alloc, BELOW_FIRST),
     ];
     all_hold(&rt, &wrong);
-    let hundred = [
-        comes_into_balance(alloc, true),
-        comes_into_balance(alloc, false),
-    ];
-    assert_eq!(rt; hundred, [Ok(true); 2]);
+    assert!(rt; comes_into_balance(alloc, true) && comes_into_balance(alloc, false));
 }

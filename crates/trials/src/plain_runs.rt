@@ -1,13 +1,14 @@
-//! Calls run one after another on plain cells, with their replies and the pairs that are left.
+//! Calls run one after another on plain cells, with their replies, and the pairs and the shape that are left.
 ghost use Rattle.std.specs.Prelude.{◌≤◌, IfOk};
 ghost use Rattle.pc_model.specs.Trees.{plain};
 ghost use Rattle.pc_model.specs.TreeForms.{tree_form};
 ghost use Rattle.pc_plain.specs.PlainRuns.{HoldsPairs};
 
+use crate::shapes::{Line, Pair, has_lines, has_pairs};
 use crate::tables::all_hold;
 use pc_bst::{BstGet, BstPut, BstRemove};
 use pc_model::{Memory, Reply};
-use pc_plain::{NoPlainSlot, PlainCells, pairs, run_plan, shape};
+use pc_plain::{NoPlainSlot, PlainCells, run_plan};
 use std::alloc::Global;
 
 /// What is called, with small keys and values.
@@ -43,59 +44,62 @@ fn answer(cells: &mut PlainCells, called: Called) -> Answer
     }
 }
 
-/// Whether the calls are answered so on cells with so many slots, and leave these pairs.
-fn runs_so(
-    alloc: Global,
-    slots: u16,
-    calls: &[(Called, Answer)],
-    left: &[(u64, u64)],
-) -> Result<bool, Memory> {
-    let mut cells = opened(alloc, u32::from(slots.min(61_000)))?;
+/// Whether the calls are answered so.
+fn are_answered(cells: &mut PlainCells, calls: &[(Called, Answer)]) -> bool
+    requires { HoldsPairs (tree_form plain) cells.old }
+    ensures { HoldsPairs (tree_form plain) cells.new }
+{
     for (called, wanted) in calls {
-        if answer(&mut cells, *called) != *wanted {
-            return Ok(false);
+        if answer(cells, *called) != *wanted {
+            return false;
         }
     }
-    let listed = pairs(alloc, &cells)?;
-    Ok(listed.as_slice() == left)
+    true
 }
 
-/// Whether the tree has this shape, as depth, key, height and balance, after the puts of these keys and then
-/// the remove of one.
-fn has_shape_so(
-    alloc: Global,
-    puts: &[u32],
-    removed: u32,
-    wanted: &[(u32, u64, u32, i64)],
-) -> Result<bool, Memory> {
-    let mut cells = opened(alloc, 6)?;
-    for key in puts {
-        let _ = answer(&mut cells, Called::Put(*key, *key));
+/// The slots, the calls with their answers, and the pairs and the shape that are left.
+type Run = (
+    u16,
+    &'static [(Called, Answer)],
+    &'static [Pair],
+    &'static [Line],
+);
+
+fn runs_so(alloc: Global, run: Run) -> bool {
+    let (slots, calls, left, lines) = run;
+    match opened(alloc, u32::from(slots.min(61_000))) {
+        Ok(mut cells) => {
+            are_answered(&mut cells, calls)
+                && has_pairs(alloc, &cells, left)
+                && has_lines(alloc, &cells, lines)
+        }
+        Err(_) => false,
     }
-    let _ = answer(&mut cells, Called::Remove(removed));
-    let lines = shape(alloc, &cells)?;
-    let found = lines
-        .iter()
-        .map(|line| (line.depth, line.key, line.height, line.balance));
-    Ok(found.eq(wanted.iter().copied()))
 }
 
 const FULL: Answer = Err(NoPlainSlot { live: 2 });
 
 const NEW: Answer = Ok(Reply::New);
 
-/// The slots, the calls with their answers, and the pairs that are left.
-type Run = (u16, &'static [(Called, Answer)], &'static [(u64, u64)]);
-
 const RUNS: &[Run] = &[
-    (0, &[], &[]),
-    (4, &[], &[]),
+    (0, &[], &[], &[]),
+    (4, &[], &[], &[]),
     (
         2,
         &[
             (Called::Get(5), Ok(Reply::None)),
             (Called::Remove(5), Ok(Reply::None)),
         ],
+        &[],
+        &[],
+    ),
+    (
+        6,
+        &[
+            (Called::Put(4, 4), NEW),
+            (Called::Remove(4), Ok(Reply::Value(4))),
+        ],
+        &[],
         &[],
     ),
     (
@@ -109,6 +113,7 @@ const RUNS: &[Run] = &[
             (Called::Put(9, 90), NEW),
         ],
         &[(3, 30), (5, 2), (9, 90)],
+        &[(1, 5, 2, 0), (2, 3, 1, 0), (2, 9, 1, 0)],
     ),
 ];
 
@@ -123,6 +128,7 @@ const LIFTS: &[Run] = &[
             (Called::Remove(2), Ok(Reply::Value(20))),
         ],
         &[(1, 10), (3, 30)],
+        &[(1, 3, 2, 1), (2, 1, 1, 0)],
     ),
     (
         6,
@@ -136,6 +142,13 @@ const LIFTS: &[Run] = &[
             (Called::Remove(10), Ok(Reply::Value(10))),
         ],
         &[(5, 5), (15, 15), (17, 17), (20, 20), (25, 25)],
+        &[
+            (1, 15, 3, -1),
+            (2, 5, 1, 0),
+            (2, 20, 2, 0),
+            (3, 17, 1, 0),
+            (3, 25, 1, 0),
+        ],
     ),
 ];
 
@@ -150,6 +163,7 @@ const FULL_CELLS: &[Run] = &[
             (Called::Put(2, 5), Ok(Reply::Was(2))),
         ],
         &[(1, 1), (2, 5)],
+        &[(1, 1, 2, -1), (2, 2, 1, 0)],
     ),
     (
         2,
@@ -161,41 +175,14 @@ const FULL_CELLS: &[Run] = &[
             (Called::Put(3, 3), NEW),
         ],
         &[(2, 2), (3, 3)],
+        &[(1, 2, 2, -1), (2, 3, 1, 0)],
     ),
 ];
 
-// The first run that is answered otherwise, or leaves other pairs.
+// The first run that is answered otherwise, or leaves other pairs or another shape.
 fn first_other_run(alloc: Global, runs: &[Run]) -> Option<usize> {
-    for (i, (slots, calls, left)) in runs.iter().enumerate() {
-        if runs_so(alloc, *slots, calls, left) != Ok(true) {
-            return Some(i);
-        }
-    }
-    None
-}
-
-/// The keys that are put, the one that is removed then, and the shape.
-type Shape = (&'static [u32], u32, &'static [(u32, u64, u32, i64)]);
-
-const SHAPES: &[Shape] = &[
-    (&[4], 4, &[]),
-    (&[2, 1, 3], 2, &[(1, 3, 2, 1), (2, 1, 1, 0)]),
-    (
-        &[10, 5, 20, 15, 25, 17],
-        10,
-        &[
-            (1, 15, 3, -1),
-            (2, 5, 1, 0),
-            (2, 20, 2, 0),
-            (3, 17, 1, 0),
-            (3, 25, 1, 0),
-        ],
-    ),
-];
-
-fn first_other_shape(alloc: Global) -> Option<usize> {
-    for (i, (puts, removed, wanted)) in SHAPES.iter().enumerate() {
-        if has_shape_so(alloc, puts, *removed, wanted) != Ok(true) {
+    for (i, run) in runs.iter().enumerate() {
+        if !runs_so(alloc, *run) {
             return Some(i);
         }
     }
@@ -216,7 +203,6 @@ fn runs_answer_as_the_sorted_map_and_leave_its_pairs_and_shapes(rt: HostRuntime)
         first_other_run(alloc, RUNS),
         first_other_run(alloc, LIFTS),
         first_other_run(alloc, FULL_CELLS),
-        first_other_shape(alloc),
     ];
     assert!(rt; is_refusal_shown(alloc));
     all_hold(&rt, &wrong);

@@ -269,14 +269,12 @@ const LONG_SCRIPTS: &[(Long, Result<(u32, usize), ScriptFault>)] = &[
     ),
 ];
 
-fn joined(alloc: Global, long: Long) -> Result<Vec<u8>, AllocError> {
-    let mut bytes = Vec::new(alloc);
+fn join(bytes: &mut Vec<u8>, long: Long) -> Result<(), AllocError> {
     bytes.extend_from_slice(long.0)?;
     for _ in 0..long.2 {
         bytes.extend_from_slice(long.1)?;
     }
-    bytes.extend_from_slice(long.3)?;
-    Ok(bytes)
+    bytes.extend_from_slice(long.3)
 }
 
 fn first_long_script_misread(alloc: Global) -> Option<usize> {
@@ -289,10 +287,8 @@ fn first_long_script_misread(alloc: Global) -> Option<usize> {
 }
 
 fn is_read_so(alloc: Global, long: Long, wanted: Result<(u32, usize), ScriptFault>) -> bool {
-    match joined(alloc, long) {
-        Ok(bytes) => counts(alloc, &bytes) == wanted,
-        Err(_) => false,
-    }
+    let mut bytes = Vec::new(alloc);
+    join(&mut bytes, long).is_ok() && counts(alloc, &bytes) == wanted
 }
 
 #[test]

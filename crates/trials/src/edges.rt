@@ -3,8 +3,8 @@ use pc_edge::{
     Chunk, Failed, Gate, MemorySink, MemorySource, NeverFails, OpenGate, SIZE, Sink, Source,
     StdSink, StdSource, write_all,
 };
+use std::alloc::{AllocError, Global};
 use std::io::Cursor;
-use std::test::Fail;
 
 /// What a read comes to: how many bytes or a failure, the first byte of the buffer then, and the faults.
 type Reads = (Result<usize, Failed>, u8, u64);
@@ -35,18 +35,18 @@ fn all_read_so(source: &mut MemorySource) -> bool {
     true
 }
 
-#[test]
-fn a_source_in_memory_fails_at_the_listed_reads(rt: HostRuntime) -> Result<(), Fail> {
+fn source_reads_so(alloc: Global) -> Result<bool, AllocError> {
+    let bytes = Vec::from_slice(alloc, b"get 5")?;
+    let fails = Vec::from_slice(alloc, &[2])?;
     let mut source = MemorySource {
-        bytes: Vec::from_slice(rt.alloc(), b"get 5")?,
+        bytes,
         at: 0,
         piece: 1,
-        fails: Vec::from_slice(rt.alloc(), &[2])?,
+        fails,
         calls: 0,
         faults: 0,
     };
-    assert!(rt; all_read_so(&mut source));
-    Ok(())
+    Ok(all_read_so(&mut source))
 }
 
 /// A piece that is written, how many bytes of it are taken, what is held then, and the faults.
@@ -76,14 +76,19 @@ fn all_taken_so(sink: &mut MemorySink) -> bool {
     true
 }
 
-#[test]
-fn a_sink_in_memory_takes_pieces_while_there_is_room(rt: HostRuntime) -> Result<(), Fail> {
-    // A room of real size is found.
-    let mut sink = MemorySink::with_room(rt.alloc(), 4_194_304, 3)?;
-    sink.room = 5;
-    sink.fails = Vec::from_slice(rt.alloc(), &[2])?;
-    assert!(rt; all_taken_so(&mut sink));
-    Ok(())
+// A room of real size is found.
+fn sink_takes_so(alloc: Global) -> bool {
+    match (
+        MemorySink::with_room(alloc, 4_194_304, 3),
+        Vec::from_slice(alloc, &[2]),
+    ) {
+        (Ok(mut sink), Ok(fails)) => {
+            sink.room = 5;
+            sink.fails = fails;
+            all_taken_so(&mut sink)
+        }
+        _ => false,
+    }
 }
 
 fn gives_so<S: Source>(source: &mut S) -> bool {
@@ -94,8 +99,7 @@ fn gives_so<S: Source>(source: &mut S) -> bool {
     first && second && last
 }
 
-#[test]
-fn borrowed_and_standard_sources_give_their_bytes(rt: HostRuntime) {
+fn other_sources_give_so() -> bool {
     let mut borrowed = NeverFails {
         bytes: b"get 5",
         at: 0,
@@ -104,7 +108,12 @@ fn borrowed_and_standard_sources_give_their_bytes(rt: HostRuntime) {
         inner: Cursor::new(b"get 5".as_slice()),
         faults: 0,
     };
-    assert!(rt; gives_so(&mut borrowed) && gives_so(&mut standard));
+    gives_so(&mut borrowed) && gives_so(&mut standard)
+}
+
+#[test]
+fn sources_give_their_bytes_and_fail_at_the_listed_reads(rt: HostRuntime) {
+    assert!(rt; source_reads_so(rt.alloc()) == Ok(true) && other_sources_give_so());
     OpenGate.before(1, 1);
     OpenGate.after(1, 1);
 }
@@ -121,12 +130,10 @@ fn fills_so(room: usize, ended: Result<(), Failed>, left: [u8; 5], faults: u64) 
     written == ended && counted == faults && bytes == left
 }
 
-#[test]
-fn a_standard_sink_that_takes_nothing_fails(rt: HostRuntime) {
-    let whole = fills_so(5, Ok(()), *b"none\n", 0);
-    let front = fills_so(2, Err(Failed), *b"no...", 1);
-    let nothing = fills_so(0, Err(Failed), *b".....", 1);
-    assert!(rt; whole && front && nothing);
+fn standard_sink_takes_so() -> bool {
+    fills_so(5, Ok(()), *b"none\n", 0)
+        && fills_so(2, Err(Failed), *b"no...", 1)
+        && fills_so(0, Err(Failed), *b".....", 1)
 }
 
 // Whether a chunk, filled where it is empty, makes room so on its way to the sink.
@@ -154,12 +161,26 @@ fn sends_so(chunk: &mut Chunk, sink: &mut MemorySink) -> bool {
     fits && sends && fails && is_sent
 }
 
+fn chunk_is_sent(alloc: Global) -> bool {
+    match MemorySink::with_room(alloc, 30, 3) {
+        Ok(mut sink) => {
+            sends_so(&mut Chunk::new(), &mut sink)
+                && sink.held.as_slice() == b"left 18446744073709551615\nleft".as_slice()
+        }
+        Err(_) => false,
+    }
+}
+
+fn failure_is_shown(alloc: Global) -> bool {
+    match format!(in alloc; "{Failed}") {
+        Ok(shown) => shown.as_str() == "a read or a write failed",
+        Err(_) => false,
+    }
+}
+
 #[test]
-fn a_chunk_sends_what_was_put_into_it(rt: HostRuntime) -> Result<(), Fail> {
-    let mut sink = MemorySink::with_room(rt.alloc(), 30, 3)?;
-    let is_sent = sends_so(&mut Chunk::new(), &mut sink);
-    let is_held = sink.held.as_slice() == b"left 18446744073709551615\nleft".as_slice();
-    let shown = format!(in rt.alloc(); "{Failed}")?;
-    assert!(rt; is_sent && is_held && shown.as_str() == "a read or a write failed");
-    Ok(())
+fn sinks_and_chunks_take_what_there_is_room_for(rt: HostRuntime) {
+    let alloc = rt.alloc();
+    assert!(rt; sink_takes_so(alloc) && standard_sink_takes_so() && chunk_is_sent(alloc));
+    assert!(rt; failure_is_shown(alloc));
 }

@@ -18,7 +18,8 @@ const LEAF: Fresh = Fresh {
     height: 0,
 };
 
-fn words_and_charges_stand_in_their_order() -> bool {
+// A change that is built anew after it was forgotten.
+fn built() -> Change {
     let mut change = Change::new(Reply::None);
     change.mark_removed(7, 0);
     change.charge(9);
@@ -29,16 +30,26 @@ fn words_and_charges_stand_in_their_order() -> bool {
     change.charge(7);
     change.charge(5);
     change.fresh = Some(LEAF);
+    change
+}
+
+fn stands_in_its_order(change: &Change) -> bool {
     let words = [
         word(Field::Version, 4, To::Number(6)),
         word(Field::Left, 0, To::Fresh),
         word(Field::Value, 1, To::Number(3)),
     ];
     let lists = change.adds() == words.as_slice() && change.charged() == [7, 5].as_slice();
-    let rest = change.mark.is_none() && change.reply == Reply::New;
+    lists && change.mark.is_none() && change.reply == Reply::New
+}
+
+// Whether what is marked as removed then is the last word.
+fn is_marked(change: &mut Change) -> bool {
+    if change.adds().len() >= 24 {
+        return false;
+    }
     change.mark_removed(3, 8);
-    let marked = change.mark == Some(3) && change.adds().len() == 4;
-    lists && rest && marked
+    change.mark == Some(3) && change.adds().len() == 4
 }
 
 // Whether there is room for 24 words.
@@ -64,7 +75,8 @@ fn has_room_for_charges(change: &mut Change) -> bool {
 
 #[test]
 fn a_change_holds_24_words_and_4_charges_in_their_order(rt: HostRuntime) {
-    assert!(rt; words_and_charges_stand_in_their_order());
+    let mut built = built();
+    assert!(rt; stands_in_its_order(&built) && is_marked(&mut built));
     let mut change = Change::new(Reply::None);
     assert!(rt; has_room_for_words(&mut change) && has_room_for_charges(&mut change));
 }
