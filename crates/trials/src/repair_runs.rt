@@ -6,6 +6,7 @@ use crate::tables::all_hold;
 use pc_locked::{LockedState, TreeKind, apply, open_state, pay};
 use pc_model::Call;
 use pc_plain::{pairs, shape};
+use pc_text::ShapeLine;
 use std::alloc::Global;
 
 /// What is called. A key is put with itself as its value.
@@ -285,21 +286,35 @@ fn are_paid_at_last(state: &mut LockedState, rising: bool) -> bool {
     is_paid(state)
 }
 
+fn are_hundred_keys(listed: &[(u64, u64)]) -> bool {
+    for (i, pair) in listed.iter().enumerate() {
+        let key = (i as u64).wrapping_add(1);
+        if *pair != (key, key) {
+            return false;
+        }
+    }
+    listed.len() == 100
+}
+
 fn has_hundred_keys(alloc: Global, state: &LockedState) -> bool {
     match pairs(alloc, state.cells()) {
-        Ok(listed) => {
-            listed
-                .iter()
-                .copied()
-                .eq((1..=100u64).map(|key| (key, key)))
-        }
+        Ok(listed) => are_hundred_keys(&listed),
         Err(_) => false,
     }
 }
 
+fn are_balanced(lines: &[ShapeLine]) -> bool {
+    for line in lines {
+        if line.balance < -1 || line.balance > 1 || line.height > 9 {
+            return false;
+        }
+    }
+    true
+}
+
 fn is_balanced(alloc: Global, state: &LockedState) -> bool {
     match shape(alloc, state.cells()) {
-        Ok(lines) => lines.iter().all(|line| (-1..=1).contains(&line.balance) && line.height <= 9),
+        Ok(lines) => are_balanced(&lines),
         Err(_) => false,
     }
 }

@@ -43,10 +43,12 @@ fn number_of(node: Node, field: Field) -> u64 {
 
 /// What stands in a field of a node; 0 where there is no such node.
 fn number_in(nodes: &[Node], node: u32, field: Field) -> u64 {
-    match nodes.iter().find(|row| row.0 == node) {
-        Some(row) => number_of(*row, field),
-        None => 0,
+    for row in nodes {
+        if row.0 == node {
+            return number_of(*row, field);
+        }
     }
+    0
 }
 
 /// Whether the plan visits these nodes in turn, and ends so.
@@ -495,14 +497,20 @@ const SETTLED: &[(Of, Reply, Settle)] = &[
     (Of::From(5), Reply::Value(6), Settle::First(6)),
 ];
 
+fn settlement(of: Of, reply: Reply) -> Settle {
+    match of {
+        Of::Key(key) => AvlRepair::settles(key, reply),
+        Of::From(number) => AvlRepairFrom::settles(number, reply),
+    }
+}
+
 fn first_settled_otherwise() -> Option<usize> {
-    SETTLED.iter().position(|(of, reply, wanted)| {
-        let settled = match of {
-            Of::Key(key) => AvlRepair::settles(*key, *reply),
-            Of::From(number) => AvlRepairFrom::settles(*number, *reply),
-        };
-        settled != *wanted
-    })
+    for (i, (of, reply, wanted)) in SETTLED.iter().enumerate() {
+        if settlement(*of, *reply) != *wanted {
+            return Some(i);
+        }
+    }
+    None
 }
 
 #[test]

@@ -96,7 +96,12 @@ fn ends_so<P: Plan>(mut plan: P, parts: &[&[Row]], exchange: Option<Exchange>) -
 }
 
 fn asks_so<P: Plan>(plan: &mut P, change: &mut Change, rows: &[Row]) -> bool {
-    rows.iter().all(|row| plan.step(row.0, change) == row.1)
+    for row in rows {
+        if plan.step(row.0, change) != row.1 {
+            return false;
+        }
+    }
+    true
 }
 
 /// Whether the exchange that a plan wrote is this one.
@@ -107,9 +112,15 @@ pub fn is_written(change: &Change, exchange: Exchange) -> bool {
 }
 
 fn are_words(adds: &[Add], words: &[Word]) -> bool {
-    adds.iter()
-        .map(|add| (add.node, add.field, add.old, add.new))
-        .eq(words.iter().copied())
+    if adds.len() != words.len() {
+        return false;
+    }
+    for (i, add) in adds.iter().enumerate() {
+        if (add.node, add.field, add.old, add.new) != words[i] {
+            return false;
+        }
+    }
+    true
 }
 
 /// The entry that a call of the plan has in a history.

@@ -11,10 +11,19 @@ const TO_2: [(Told, Step); 5] = [
     (Told::Number(10), Step::Here(10)),
 ];
 
+fn comes_to_2(walk: &mut Walk) -> bool {
+    for row in &TO_2 {
+        if walk.step(row.0) != row.1 {
+            return false;
+        }
+    }
+    true
+}
+
 /// Walks to a key as far as node 2, and on by the link on that side, which has this number.
 fn goes_on(key: u64, side: Side, link: u64, last: Step) -> bool {
     let mut walk = Walk::new(key);
-    let comes = TO_2.iter().all(|row| walk.step(row.0) == row.1);
+    let comes = comes_to_2(&mut walk);
     let reads = walk.go_on(10) == Turn::Read(2, side.link());
     let ends = walk.step(Told::Number(link)) == last;
     comes && reads && ends
