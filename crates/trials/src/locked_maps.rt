@@ -38,10 +38,33 @@ const GRANTED: &[Entry] = &[
     },
 ];
 
+/// Whether a call and its settlement take the lock once, or once each.
+#[derive(Clone, Copy)]
+enum Taking {
+    Once,
+    Twice,
+}
+
+const TAKINGS: [Taking; 2] = [Taking::Once, Taking::Twice];
+
+/// Makes a call of a shared map, and settles.
+fn made<R: Wait>(rt: &R, map: &LockedMap, pass: u32, called: Called, taking: Taking) -> Answer
+    requires { IsInRange 1 3 pass }
+{
+    match taking {
+        Taking::Once => map.call_and_settle(rt, pass, call_of(called)),
+        Taking::Twice => {
+            let answer = map.call(rt, pass, call_of(called));
+            map.settle(rt);
+            answer
+        }
+    }
+}
+
 /// Whether the calls of pass 1 are answered so on a shared map.
-fn are_answered_so<R: Wait>(rt: &R, map: &LockedMap) -> bool {
+fn are_answered_so<R: Wait>(rt: &R, map: &LockedMap, taking: Taking) -> bool {
     for (called, wanted) in REFUSALS {
-        if map.call(rt, 1, call_of(*called)) != *wanted {
+        if made(rt, map, 1, *called, taking) != *wanted {
             return false;
         }
     }
@@ -58,10 +81,10 @@ fn are_applied_so(state: &mut LockedState) -> bool {
     true
 }
 
-fn is_refused_so<R: Wait>(rt: &R, alloc: Global, kind: TreeKind) -> bool {
+fn is_refused_so<R: Wait>(rt: &R, alloc: Global, kind: TreeKind, taking: Taking) -> bool {
     match LockedMap::new(alloc, kind, 1, 2) {
         Ok(map) => {
-            let answered = are_answered_so(rt, &map);
+            let answered = are_answered_so(rt, &map, taking);
             let state = map.into_state();
             answered && state.history() == GRANTED
         }
@@ -81,7 +104,9 @@ const TREES: [TreeKind; 2] = [TreeKind::Bst, TreeKind::Avl];
 /// The first kind of tree on which the calls are answered or entered otherwise.
 fn first_refused_otherwise<R: Wait>(rt: &R, alloc: Global) -> Option<usize> {
     for (i, kind) in TREES.iter().enumerate() {
-        if !is_refused_so(rt, alloc, *kind) || !is_own_refused_so(alloc, *kind) {
+        let shared = is_refused_so(rt, alloc, *kind, Taking::Once)
+            && is_refused_so(rt, alloc, *kind, Taking::Twice);
+        if !shared || !is_own_refused_so(alloc, *kind) {
             return Some(i);
         }
     }
@@ -105,21 +130,20 @@ const WHOLE: &[Line] = &[
 ];
 
 /// Puts 1 to 7, each settled.
-fn are_put_and_settled<R: Wait>(rt: &R, map: &LockedMap) -> bool {
+fn are_put_and_settled<R: Wait>(rt: &R, map: &LockedMap, taking: Taking) -> bool {
     for key in 1..=7u32 {
-        if map.call(rt, 1, call_of(Called::Put(key, key))) != Ok(Reply::New) {
+        if made(rt, map, 1, Called::Put(key, key), taking) != Ok(Reply::New) {
             return false;
         }
-        map.settle(rt);
     }
     true
 }
 
 /// Whether such puts leave a map that owes nothing, with the whole tree.
-fn is_settled<R: Wait>(rt: &R, alloc: Global) -> bool {
+fn is_settled<R: Wait>(rt: &R, alloc: Global, taking: Taking) -> bool {
     match LockedMap::new(alloc, TreeKind::Avl, 7, 7) {
         Ok(map) => {
-            let put = are_put_and_settled(rt, &map);
+            let put = are_put_and_settled(rt, &map, taking);
             let mut state = map.into_state();
             put && !pay(&mut state) && has_shape(alloc, &state, WHOLE)
         }
@@ -129,7 +153,9 @@ fn is_settled<R: Wait>(rt: &R, alloc: Global) -> bool {
 
 #[test]
 fn a_settled_map_owes_nothing(rt: HostRuntime) {
-    assert!(rt; is_settled(&rt, rt.alloc()));
+    for taking in TAKINGS {
+        assert!(&rt; is_settled(&rt, rt.alloc(), taking));
+    }
 }
 
 /// How many calls each pass makes.
@@ -147,15 +173,16 @@ fn call_at(pass: u32, turn: u32) -> Called {
     }
 }
 
-/// Makes the calls of a pass, each settled, and gives their replies; none where a call is refused.
+/// Makes the calls of a pass, each settled, by turns with one lock and with two, and gives their replies; none where a
+/// call is refused.
 fn replies_to<R: Wait>(rt: &R, alloc: Global, map: &LockedMap, pass: u32) -> Option<Vec<Reply>>
     requires { IsInRange 1 3 pass }
 {
     let mut replies = Vec::new(alloc);
     for turn in 1..=TURNS {
-        let reply = map.call(rt, pass, call_of(call_at(pass, turn))).ok()?;
+        let taking = TAKINGS[turn as usize % 2];
+        let reply = made(rt, map, pass, call_at(pass, turn), taking).ok()?;
         replies.push(reply).ok()?;
-        map.settle(rt);
     }
     Some(replies)
 }
