@@ -11,6 +11,7 @@ pub mod Holes
 pub mod Insertion
 pub mod InsertionDebts
 pub mod Links
+pub mod LooseShape
 pub mod MapLawProofs
 pub mod NodeKeys
 pub mod OrderedMaps
@@ -32,6 +33,7 @@ pub mod Worked
 pub mod WorkedBalance
 pub mod WorkedCells
 pub mod WorkedDebts
+pub mod WorkedLinks
 pub mod WorkedRemoval
 pub mod WorkedRotation
 pub mod Writes

@@ -11,12 +11,14 @@ pub mod Forms
 pub mod HeightLaws
 pub mod Heights
 pub mod History
+pub mod Linked
 pub mod Map
 pub mod MapLaws
 pub mod ReadingLaws
 pub mod Readings
 pub mod Replay
 pub mod Rotations
+pub mod Shapes
 pub mod Sides
 pub mod TreeForms
 pub mod Trees

@@ -7,7 +7,10 @@ mod call;
 mod cell;
 mod first_wrong;
 mod laws;
+mod numbers;
 mod owed;
+mod shape;
+mod shape_laws;
 
 pub use call::{Call, Entry, Memory, Reply};
 pub use cell::{Counter, Field, Side};
@@ -17,4 +20,7 @@ pub use laws::{
     first_owed_is_owed, history_of_one_client_is_its_calls, no_debt_is_forgotten,
     no_debt_is_invented, replay_goes_in_parts, sorted_map_is_finite_map,
 };
+pub use numbers::Numbers;
 pub use owed::{Owed, Owing, Settle};
+pub use shape::{Loose, Shape};
+pub use shape_laws::{loose_cells_are_linked, shapes_keep_their_laws};
