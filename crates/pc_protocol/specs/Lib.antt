@@ -1,0 +1,5 @@
+pub mod Histories
+pub mod Notes
+pub mod Rules
+pub mod Seeing
+pub mod Steps

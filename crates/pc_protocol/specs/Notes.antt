@@ -1,0 +1,66 @@
+-- What a pass may note, and when it is true. A note that is true stays so at every step.
+use Rattle.std.specs.Prelude.{◌≡◌, ℕ, ◌<◌, ◌≤◌, Some}
+use Rattle.pc_model.specs.declared.cell.Field.{Field}
+use Rattle.pc_model.specs.declared.cell.Field.TheVariants.{Version}
+use Rattle.pc_model.specs.Cells.{Cells}
+use Rattle.pc_model.specs.Exchanges.{Changed, Exchange}
+use Rattle.pc_history.specs.Footprints.{IsAmong, IsOfWord, LeavesWord}
+use Rattle.pc_protocol.specs.Histories.{Stage, History, moments, IsPublished, IsUndecided, IsDecided, value_by, IsUsed, Drew}
+use Rattle.pc_protocol.specs.Seeing.{SawWord, Saw}
+
+-- what a check finds in a version word: a number, plain or the one that an install names, or a reference
+pub data Found : Type 0 where
+  value : ℕ → Found
+  by : ℕ → Found
+
+abbrev pub IsBy : Found → ℕ → Type 0
+IsBy (value w) x = ⊥
+IsBy (by y) x = y ≡ x
+
+-- the exchange was published and changes this node's version, which by its stage is at least this number
+pub record IsBoundedBy (stage : ℕ → Stage) (op : ℕ → Exchange) (n v x : ℕ) : Type 0 where
+  pub published : IsPublished (stage x)
+  pub change : Changed
+  pub among : IsAmong change (op x).changes
+  pub is_of : IsOfWord n Version change
+  pub bound : v ≤ value_by (stage x) change.old change.new
+
+-- what was found is a bound of the version
+abbrev pub IsBelowFound : (ℕ → Stage) → (ℕ → Exchange) → ℕ → ℕ → Found → Type 0
+IsBelowFound stage op n v (value w) = v ≤ w
+IsBelowFound stage op n v (by x) = IsBoundedBy stage op n v x
+
+-- A version word was looked at for a stamp, and this was found. No other exchange that isn't decided and has a stamp
+-- below changes that version or makes the node; and at the stamp the version was no greater than what was found.
+pub record Looked (h : History) (s n : ℕ) (f : Found) : Type 0 where
+  pub others : (y t : ℕ) → IsUndecided (h.stage y) → Drew h.clock h.drawn_for t y → t < s → (IsBy f y → ⊥)
+      → LeavesWord (h.op y) n Version
+  pub below : IsBelowFound h.stage h.op n (moments h s n Version) f
+
+pub data Note : Type 0 where
+  -- the node had at least this version at a moment
+  visited : ℕ → ℕ → ℕ → Note
+  -- after a visit at this version the word had this number
+  read_word : ℕ → ℕ → Field → ℕ → ℕ → Note
+  -- all that an exchange visits and reads was so
+  saw : ℕ → Exchange → Note
+  -- a version word was looked at for a stamp
+  looked : ℕ → ℕ → Found → Note
+  -- the exchange's reference was found in this word, or put there
+  held : ℕ → ℕ → Field → Note
+  -- a stamp was drawn for the exchange
+  drew : ℕ → ℕ → Note
+  -- the exchange was decided so
+  verdict : ℕ → Stage → Note
+  -- the node's slot is in use
+  in_use : ℕ → Note
+
+abbrev pub IsTrueNote : History → Note → Type 0
+IsTrueNote h (visited n v b) = (b ≤ h.clock) × (v ≤ moments h b n Version)
+IsTrueNote h (read_word n v f x b) = (b ≤ h.clock) × SawWord (moments h) b n v f x
+IsTrueNote h (saw b e) = (b ≤ h.clock) × Saw (moments h) b e
+IsTrueNote h (looked s n f) = (s < h.clock) × Looked h s n f
+IsTrueNote h (held x n f) = IsPublished (h.stage x) × (IsUndecided (h.stage x) → h.reference n f ≡ Some x)
+IsTrueNote h (drew x s) = Drew h.clock h.drawn_for s x
+IsTrueNote h (verdict x st) = (h.stage x ≡ st) × IsDecided st
+IsTrueNote h (in_use n) = IsUsed (h.slot n)

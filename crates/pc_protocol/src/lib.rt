@@ -1,0 +1,2 @@
+//! The protocol of exchanges without its words.
+#![tactic(auto)]
