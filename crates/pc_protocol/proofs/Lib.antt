@@ -1,7 +1,11 @@
 pub mod Aborts
+pub mod Commits
+pub mod Drawn
 pub mod Draws
 pub mod Items
 pub mod Notes
 pub mod Publishing
+pub mod Reading
+pub mod Slots
 pub mod Stages
 pub mod Words
