@@ -1,20 +1,25 @@
 -- A failed decision keeps the rule and every note: its references are worth their old numbers before and after.
-use Rattle.std.proofs.Common.{◌≡◌, ◌≢◌, ℕ, ◌<◌, ◌≤◌, ◌⊎◌, inl, inr, ⊎_elim, Some, refl, sym, ap, ◌∙◌, subst, arith, le_refl}
+use Rattle.std.proofs.Common.{◌≡◌, ◌≢◌, ℕ, ◌<◌, ◌≤◌, ◌⊎◌, inl, inr, ⊎_elim, Some, None, refl, sym, ap, ◌∙◌, subst, arith, le_refl}
+use Rattle.pc_model.specs.declared.cell.Field.TheVariants.{Version}
 use Rattle.pc_model.specs.Exchanges.{Exchange}
 use Rattle.pc_history.specs.Updates.{updated}
 use Rattle.pc_history.specs.Runs.{OnItem}
 use Rattle.pc_history.proofs.Moments.{versions_never_fall}
 use Rattle.pc_history.proofs.Updates.{updated_other, on_updated, from_updated}
-use Rattle.pc_protocol.specs.Histories.{Stage, committed, aborted, Cause, History, moments, IsPublished, IsUndecided}
+use Rattle.pc_protocol.specs.Histories.{Stage, committed, aborted, Cause, History, moments, cells_now, IsPublished}
+use Rattle.pc_protocol.specs.Histories.{IsUndecided}
 use Rattle.pc_protocol.specs.Histories.{IsDecided, value_by}
-use Rattle.pc_protocol.specs.Rules.{IsTaken, Rule}
-use Rattle.pc_protocol.specs.Steps.{Keeps, abort}
+use Rattle.pc_protocol.specs.Rules.{IsTaken, IsCause, Rule}
+use Rattle.pc_protocol.specs.Steps.{Keeps, abort, CanAbort}
 use Rattle.pc_protocol.proofs.Stages.{undecided_is_published, decided_not_undecided, committed_not_undecided}
-use Rattle.pc_protocol.proofs.Stages.{undecided_value}
+use Rattle.pc_protocol.proofs.Stages.{undecided_value, aborted_is_published, same_cause}
 use Rattle.pc_protocol.proofs.Items.{on_item_map, refers_stays}
-use Rattle.pc_protocol.proofs.Notes.{Grows, notes_stay, looked_stays}
+use Rattle.pc_protocol.proofs.Notes.{Grows, cause_stays, notes_stay, looked_stays}
 
-module _ (h : History) (rule : Rule h) (x : ℕ) (cause : Cause) (open' : IsUndecided (h.stage x)) where
+module _ (h : History) (rule : Rule h) (x : ℕ) (cause : Cause) (can : CanAbort h x cause) where
+  open' : IsUndecided (h.stage x)
+  open' = can.undecided
+
   abbrev h' : History
   h' = abort h x cause
 
@@ -60,6 +65,36 @@ module _ (h : History) (rule : Rule h) (x : ℕ) (cause : Cause) (open' : IsUnde
       (λ drawn. inr (drawn.0, drawn.1, still_committed drawn.0 t drawn.2, drawn.3))
       taken
 
+  grows : Grows h h'
+  grows = record {
+    clock = le_refl h.clock;
+    rose = λ t n. inr (λ f. refl);
+    published = λ y p. (still_published y p, refl);
+    undecided = λ y p u. was_undecided y u;
+    decided = still_decided;
+    draws = λ t y drew. drew;
+    held = λ y n f u is. is;
+    in_use = λ n is. is;
+    looked = looked_stays h h' (λ t n. refl) (λ y p. (still_published y p, refl)) (λ y p u. was_undecided y u)
+        (λ y old new p. same_value y old new) (λ t y drew. (rule.drawn y t drew).0) (λ t y lt drew. drew);
+    owner = λ y. refl;
+    times = λ y p. refl;
+    cleared = λ y c le is. is;
+    now = λ n. le_refl (cells_now h n Version);
+  }
+
+  told_still : (y : ℕ) (w : Cause) → h'.stage y ≡ aborted w → IsCause h' y w
+  told_still y w is = ⊎_elim
+      (λ here. cause_stays h h' grows y w
+      (subst (λ (z : ℕ). IsPublished (h.stage z)) (sym here.0) (undecided_is_published (h.stage x) open'))
+      (let same : cause ≡ w = same_cause cause w here.1 in
+      subst (λ (z : ℕ). IsCause h z w) (sym here.0) (subst (IsCause h x) same can.cause)))
+      (λ other. cause_stays h h' grows y w (aborted_is_published (h.stage y) w other.1) (rule.told y w other.1))
+      (from_updated h.stage x (aborted cause) (λ (st : Stage). st ≡ aborted w) y is)
+
+  running_still : (y : ℕ) → (IsDecided (h'.stage y) → ⊥) → h.cleared_at y ≡ None
+  running_still y not_decided = rule.running y (λ d. not_decided (subst IsDecided (sym (still_decided y d)) d))
+
   rule_kept : Rule h'
   rule_kept = record {
     run = rule.run;
@@ -79,20 +114,9 @@ module _ (h : History) (rule : Rule h) (x : ℕ) (cause : Cause) (open' : IsUnde
     fresh = λ y g u is. rule.fresh y g (was_undecided y u) is;
     apart = λ y z g k ne u v is_g is_k. rule.apart y z g k ne (was_undecided y u) (was_undecided z v) is_g is_k;
     saw = λ y u. rule.saw y (was_undecided y u);
-  }
-
-  grows : Grows h h'
-  grows = record {
-    clock = le_refl h.clock;
-    rose = λ t n. inr (λ f. refl);
-    published = λ y p. (still_published y p, refl);
-    undecided = λ y p u. was_undecided y u;
-    decided = still_decided;
-    draws = λ t y drew. drew;
-    held = λ y n f u is. is;
-    in_use = λ n is. is;
-    looked = looked_stays h h' (λ t n. refl) (λ y p. (still_published y p, refl)) (λ y p u. was_undecided y u)
-        (λ y old new p. same_value y old new) (λ t y drew. (rule.drawn y t drew).0) (λ t y lt drew. drew);
+    told = told_still;
+    uncleared = rule.uncleared;
+    running = running_still;
   }
 
   aborts_keep : Keeps h h'
@@ -101,6 +125,6 @@ module _ (h : History) (rule : Rule h) (x : ℕ) (cause : Cause) (open' : IsUnde
     notes = notes_stay h h' (versions_never_fall h.opening h.clock h.item rule.run) grows;
   }
 
--- an exchange that isn't decided fails
-pub abort_keeps : (h : History) → Rule h → (x : ℕ) (cause : Cause) → IsUndecided (h.stage x) → Keeps h (abort h x cause)
-abort_keeps h rule x cause open' = aborts_keep h rule x cause open'
+-- an exchange that isn't decided fails, for a cause
+pub abort_keeps : (h : History) → Rule h → (x : ℕ) (cause : Cause) → CanAbort h x cause → Keeps h (abort h x cause)
+abort_keeps h rule x cause can = aborts_keep h rule x cause can

@@ -17,17 +17,18 @@ use Rattle.pc_history.proofs.Footprints.{changes_stand, raises_versions, with_ch
 use Rattle.pc_history.proofs.Footprints.{with_changes_local}
 use Rattle.pc_history.proofs.Moments.{versions_never_fall}
 use Rattle.pc_history.proofs.Entering.{has_entered}
-use Rattle.pc_protocol.specs.Histories.{for_exchange, Stage, committed, History, moments, cells_now, IsPublished}
+use Rattle.pc_protocol.specs.Histories.{for_exchange, Cause, Stage, committed, aborted, History, moments, cells_now}
+use Rattle.pc_protocol.specs.Histories.{IsPublished}
 use Rattle.pc_protocol.specs.Histories.{IsUndecided, IsDecided, value_by, IsSpare, IsUsed, Drew}
 use Rattle.pc_protocol.specs.Seeing.{Covers, SawWord, Saw}
-use Rattle.pc_protocol.specs.Rules.{IsTaken, Refers, IsReady, Rule}
+use Rattle.pc_protocol.specs.Rules.{IsTaken, Refers, IsReady, IsCause, Rule}
 use Rattle.pc_protocol.specs.Notes.{Found, value, by, IsBoundedBy, IsBelowFound, Looked}
 use Rattle.pc_protocol.specs.Steps.{Keeps, using, commit, CanCommit}
 use Rattle.pc_protocol.proofs.Stages.{same_option, none_not_some, undecided_is_published, decided_not_undecided}
-use Rattle.pc_protocol.proofs.Stages.{committed_not_undecided, same_stamp, undecided_value}
+use Rattle.pc_protocol.proofs.Stages.{committed_not_undecided, same_stamp, undecided_value, aborted_is_published}
 use Rattle.pc_protocol.proofs.Items.{on_item_map, refers_stays}
 use Rattle.pc_protocol.proofs.Slots.{using_used, using_fresh, using_other}
-use Rattle.pc_protocol.proofs.Notes.{Grows, notes_stay, saw_still}
+use Rattle.pc_protocol.proofs.Notes.{Grows, cause_stays, notes_stay, saw_still, as_great}
 use Rattle.pc_protocol.proofs.Drawn.{is_empty, own_refers, own_at, own_fresh_stands, other_leaves_own, leaves_fresh_of}
 use Rattle.pc_protocol.proofs.Drawn.{changed_version_grows, passed_version, passed_others}
 
@@ -271,25 +272,6 @@ module _ (h : History) (rule : Rule h) (x s : ℕ) (can : CanCommit h x s) where
         filled = λ f. with_changes_left e.changes h.plain k.node f (leaves f).unchanged ∙ old.filled f;
       }
 
-  rule_kept : Rule h'
-  rule_kept = record {
-    run = entered.run;
-    taken = taken_still;
-    standing = standing_still;
-    past = λ y p. rule.past y (was_published y p);
-    drawn = λ y t drew. (still_published y (rule.drawn y t drew).0, (rule.drawn y t drew).1);
-    held = λ y t a u drew among. rule.held y t a (not_this y u).1 drew among;
-    misses = misses_still;
-    plain_is = plain_still;
-    refers = refers_still;
-    unused = unused_still;
-    shaped = λ y p. rule.shaped y (was_published y p);
-    fresh = fresh_still;
-    apart = λ y z g k ne u v is_g is_k. rule.apart y z g k ne (not_this y u).1 (not_this z v).1 is_g is_k;
-    saw = λ y u. saw_still (moments h) (moments h') never_falls entered.risen (h.published_at y) (h.op y)
-        (rule.saw y (not_this y u).1);
-  }
-
   -- Looks at versions
 
   -- a reference is worth no less of a version than it was
@@ -368,6 +350,41 @@ module _ (h : History) (rule : Rule h) (x s : ℕ) (can : CanCommit h x s) where
     held = λ y n f u is. is;
     in_use = using_used e.fresh h.slot;
     looked = looked_still;
+    owner = λ y. refl;
+    times = λ y p. refl;
+    cleared = λ y c le is. is;
+    now = λ n. as_great (moments h) (moments h') never_falls entered.risen h.clock n;
+  }
+
+  told_still : (y : ℕ) (w : Cause) → h'.stage y ≡ aborted w → IsCause h' y w
+  told_still y w is = ⊎_elim
+      (λ here. absurd (let clash : committed s ≡ aborted w = here.1 in cc))
+      (λ other. cause_stays h h' grows y w (aborted_is_published (h.stage y) w other.1) (rule.told y w other.1))
+      (from_updated h.stage x (committed s) (λ (st : Stage). st ≡ aborted w) y is)
+
+  running_still : (y : ℕ) → (IsDecided (h'.stage y) → ⊥) → h.cleared_at y ≡ None
+  running_still y not_decided = rule.running y (λ d. not_decided (subst IsDecided (sym (grows.decided y d)) d))
+
+  rule_kept : Rule h'
+  rule_kept = record {
+    run = entered.run;
+    taken = taken_still;
+    standing = standing_still;
+    past = λ y p. rule.past y (was_published y p);
+    drawn = λ y t drew. (still_published y (rule.drawn y t drew).0, (rule.drawn y t drew).1);
+    held = λ y t a u drew among. rule.held y t a (not_this y u).1 drew among;
+    misses = misses_still;
+    plain_is = plain_still;
+    refers = refers_still;
+    unused = unused_still;
+    shaped = λ y p. rule.shaped y (was_published y p);
+    fresh = fresh_still;
+    apart = λ y z g k ne u v is_g is_k. rule.apart y z g k ne (not_this y u).1 (not_this z v).1 is_g is_k;
+    saw = λ y u. saw_still (moments h) (moments h') never_falls entered.risen (h.published_at y) (h.op y)
+        (rule.saw y (not_this y u).1);
+    told = told_still;
+    uncleared = rule.uncleared;
+    running = running_still;
   }
 
   commits_keep : Keeps h h'

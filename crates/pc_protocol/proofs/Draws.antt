@@ -14,7 +14,8 @@ use Rattle.pc_protocol.specs.Histories.{Drawer, for_exchange, for_read, History,
 use Rattle.pc_protocol.specs.Rules.{IsTaken, IsReady, Rule}
 use Rattle.pc_protocol.specs.Steps.{Keeps, draw, CanDraw}
 use Rattle.pc_protocol.proofs.Items.{on_item_none}
-use Rattle.pc_protocol.proofs.Notes.{Grows, notes_stay, looked_stays}
+use Rattle.pc_protocol.proofs.Stages.{aborted_is_published}
+use Rattle.pc_protocol.proofs.Notes.{Grows, cause_stays, notes_stay, looked_stays}
 
 module _ (h : History) (rule : Rule h) (d : Drawer) (may : (x : ℕ) → d ≡ for_exchange x → CanDraw h x) where
   abbrev h' : History
@@ -44,6 +45,26 @@ module _ (h : History) (rule : Rule h) (d : Drawer) (may : (x : ℕ) → d ≡ f
   taken_still t = on_updated h.drawn_for h.clock d (λ (k : Drawer). OnItem (IsTaken k h.stage h.op t) (h.item t)) t
       (λ e. on_item_none (IsTaken d h.stage h.op t) (h.item t) (ap h.item e ∙ no_item_now))
       (λ ne. rule.taken t)
+
+  grows : Grows h h'
+  grows = record {
+    clock = omega arith;
+    rose = λ t n. inr (λ f. refl);
+    published = λ x p. (p, refl);
+    undecided = λ x p u. u;
+    decided = λ x p. refl;
+    draws = still_drawn;
+    held = λ x n f u is. is;
+    in_use = λ n is. is;
+    looked = looked_stays h h' (λ t n. refl) (λ x p. (p, refl)) (λ x p u. u) (λ x old new p. refl)
+        (λ t x drew. (rule.drawn x t drew).0)
+        (λ t x lt drew. ⊎_elim (λ new. absurd (omega (arith, new.0, lt))) (λ old. old) (new_or_old t x drew));
+    owner = λ x. refl;
+    times = λ x p. refl;
+    cleared = λ x c le is. is;
+    now = λ n. let same : cells_now h' n Version ≡ cells_now h n Version = (λ i. same_now i n Version) in
+        omega (arith, same);
+  }
 
   rule_kept : Rule h'
   rule_kept = record {
@@ -75,21 +96,9 @@ module _ (h : History) (rule : Rule h) (d : Drawer) (may : (x : ℕ) → d ≡ f
     fresh = λ x g u is. subst (λ (c : Cells). IsReady c h.plain h.slot g) (sym same_now) (rule.fresh x g u is);
     apart = rule.apart;
     saw = rule.saw;
-  }
-
-  grows : Grows h h'
-  grows = record {
-    clock = omega arith;
-    rose = λ t n. inr (λ f. refl);
-    published = λ x p. (p, refl);
-    undecided = λ x p u. u;
-    decided = λ x p. refl;
-    draws = still_drawn;
-    held = λ x n f u is. is;
-    in_use = λ n is. is;
-    looked = looked_stays h h' (λ t n. refl) (λ x p. (p, refl)) (λ x p u. u) (λ x old new p. refl)
-        (λ t x drew. (rule.drawn x t drew).0)
-        (λ t x lt drew. ⊎_elim (λ new. absurd (omega (arith, new.0, lt))) (λ old. old) (new_or_old t x drew));
+    told = λ x w is. cause_stays h h' grows x w (aborted_is_published (h.stage x) w is) (rule.told x w is);
+    uncleared = rule.uncleared;
+    running = rule.running;
   }
 
   draws_keep : Keeps h h'

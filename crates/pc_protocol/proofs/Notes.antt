@@ -5,13 +5,15 @@ use Rattle.pc_model.specs.declared.cell.Field.{Field}
 use Rattle.pc_model.specs.declared.cell.Field.TheVariants.{Version}
 use Rattle.pc_model.specs.Cells.{Cells, IsEven}
 use Rattle.pc_model.specs.Exchanges.{Visited, Seen, Changed, Exchange}
-use Rattle.pc_history.specs.Footprints.{IsAmong, IsOfWord, LeavesWord}
+use Rattle.pc_history.specs.Footprints.{IsAmong, IsOfWord, HasChange, LeavesWord}
 use Rattle.pc_history.specs.Runs.{IsRun}
 use Rattle.pc_history.proofs.Moments.{versions_never_fall}
-use Rattle.pc_protocol.specs.Histories.{Stage, History, moments, IsPublished, IsUndecided, IsDecided, value_by, IsUsed, Drew}
+use Rattle.pc_protocol.specs.Histories.{Cause, withdrawn, changed, locked, Stage, History, moments, cells_now, IsPublished}
+use Rattle.pc_protocol.specs.Histories.{IsUndecided, IsDecided, value_by, IsUsed, Drew}
 use Rattle.pc_protocol.specs.Seeing.{Covers, SawWord, Saw}
+use Rattle.pc_protocol.specs.Rules.{IsFrom, Rival, IsCause}
 use Rattle.pc_protocol.specs.Notes.{Found, value, by, IsBy, IsBoundedBy, IsBelowFound, Looked, Note, visited, read_word}
-use Rattle.pc_protocol.specs.Notes.{saw, looked, held, drew, verdict, in_use, IsTrueNote}
+use Rattle.pc_protocol.specs.Notes.{saw, looked, held, drew, verdict, in_use, rival, IsTrueNote}
 
 -- at each moment a node's version rose, or the node is as before
 abbrev pub Rose : (ℕ → Cells) → (ℕ → Cells) → Type 0
@@ -69,6 +71,36 @@ pub record Grows (h h' : History) : Type 0 where
   pub held : (x n : ℕ) (f : Field) → IsUndecided (h'.stage x) → h.reference n f ≡ Some x → h'.reference n f ≡ Some x
   pub in_use : (n : ℕ) → IsUsed (h.slot n) → IsUsed (h'.slot n)
   pub looked : (s n : ℕ) (f : Found) → s < h.clock → Looked h s n f → Looked h' s n f
+  pub owner : (x : ℕ) → h'.owner x ≡ h.owner x
+  pub times : (x : ℕ) → IsPublished (h.stage x) → h'.published_at x ≡ h.published_at x
+  pub cleared : (x c : ℕ) → c ≤ h.clock → IsFrom c (h.cleared_at x) → IsFrom c (h'.cleared_at x)
+  pub now : (n : ℕ) → cells_now h n Version ≤ cells_now h' n Version
+
+-- a rival stays one, and so does a cause
+module _ (h h' : History) (grows : Grows h h') where
+  pub rival_stays : (pass n c : ℕ) → Rival h pass n c → Rival h' pass n c
+  rival_stays pass n c r =
+      let still : IsPublished (h'.stage r.exchange) × (h'.op r.exchange ≡ h.op r.exchange) =
+      grows.published r.exchange r.published in record {
+        exchange = r.exchange;
+        owned = grows.owner r.exchange ∙ r.owned;
+        published = still.0;
+        changes = subst (λ (e : Exchange). HasChange e n Version) (sym still.1) r.changes;
+        past = omega (arith, r.past, grows.clock);
+        cleared = grows.cleared r.exchange c r.past r.cleared;
+      }
+
+  pub cause_stays : (x : ℕ) (w : Cause) → IsPublished (h.stage x) → IsCause h x w → IsCause h' x w
+  cause_stays x withdrawn p cause = tt
+  cause_stays x (changed n) p cause = (
+    cause.0,
+    subst (λ (e : Exchange). Covers e n cause.0) (sym (grows.published x p).1) cause.1,
+    omega (arith, cause.2, grows.now n),
+  )
+  cause_stays x (locked n pass) p cause = (
+    (λ same. cause.0 (same ∙ grows.owner x)),
+    subst (λ (c : ℕ). Rival h' pass n c) (sym (grows.times x p)) (rival_stays pass n (h.published_at x) cause.1),
+  )
 
 pub notes_stay : (h h' : History) → NeverFalls (moments h) → Grows h h' → (k : Note) → IsTrueNote h k
     → IsTrueNote h' k
@@ -98,6 +130,7 @@ notes_stay h h' falls grows (verdict x st) true' = (
   true'.1,
 )
 notes_stay h h' falls grows (in_use n) true' = grows.in_use n true'
+notes_stay h h' falls grows (rival pass n c) true' = rival_stays h h' grows pass n c true'
 
 -- Looks at a step that leaves the run as it is, and the worth of each reference
 

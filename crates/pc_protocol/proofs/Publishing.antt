@@ -1,22 +1,25 @@
 -- A publication keeps the rule and every note: no stamp was drawn for the exchange yet, and no word refers to it.
-use Rattle.std.proofs.Common.{◌≡◌, ◌≢◌, ℕ, ◌<◌, ◌≤◌, ◌⊎◌, inl, inr, ⊎_elim, Option, Some, refl, sym, ap, ◌∙◌, subst, arith}
+use Rattle.std.proofs.Common.{◌≡◌, ◌≢◌, ℕ, ◌<◌, ◌≤◌, ◌⊎◌, inl, inr, ⊎_elim, Option, Some, None, refl, sym, ap, ◌∙◌, subst, arith}
 use Rattle.std.proofs.Common.{le_refl}
 use Rattle.std.proofs.lemmas.Bool.{cases_eq}
 use Rattle.pc_model.specs.declared.cell.Field.{Field}
+use Rattle.pc_model.specs.declared.cell.Field.TheVariants.{Version}
 use Rattle.pc_model.specs.Exchanges.{Changed, FreshNode, Exchange}
 use Rattle.pc_history.specs.Updates.{updated}
 use Rattle.pc_history.specs.Footprints.{IsAmong, WritesMiss, IsShaped}
 use Rattle.pc_history.specs.Runs.{OnItem}
 use Rattle.pc_history.proofs.Moments.{versions_never_fall}
 use Rattle.pc_history.proofs.Updates.{updated_here, updated_other, on_updated, from_updated}
-use Rattle.pc_protocol.specs.Histories.{Stage, absent, undecided, committed, History, moments, cells_now, IsPublished}
+use Rattle.pc_protocol.specs.Histories.{Cause, Stage, absent, undecided, committed, aborted, History, moments, cells_now}
+use Rattle.pc_protocol.specs.Histories.{IsPublished}
 use Rattle.pc_protocol.specs.Histories.{IsUndecided, IsDecided, value_by, Drew}
 use Rattle.pc_protocol.specs.Seeing.{Saw}
-use Rattle.pc_protocol.specs.Rules.{IsTaken, IsReady, Rule}
+use Rattle.pc_protocol.specs.Rules.{IsTaken, IsReady, IsCause, Rule}
 use Rattle.pc_protocol.specs.Steps.{Keeps, publish, CanPublish}
-use Rattle.pc_protocol.proofs.Stages.{absent_not_published, absent_not_decided, committed_is_published}
+use Rattle.pc_protocol.proofs.Stages.{absent_not_published, absent_not_decided, committed_is_published, decided_is_published}
+use Rattle.pc_protocol.proofs.Stages.{aborted_is_published}
 use Rattle.pc_protocol.proofs.Items.{on_item_map, refers_stays}
-use Rattle.pc_protocol.proofs.Notes.{Grows, notes_stay, looked_stays}
+use Rattle.pc_protocol.proofs.Notes.{Grows, cause_stays, notes_stay, looked_stays}
 
 module _ (h : History) (rule : Rule h) (x : ℕ) (e : Exchange) (b : ℕ) (can : CanPublish h x e b) where
   abbrev h' : History
@@ -127,6 +130,36 @@ module _ (h : History) (rule : Rule h) (x : ℕ) (e : Exchange) (b : ℕ) (can :
       (subst (Saw (moments h) (h.published_at y)) (sym (op_other y ne)) (rule.saw y (was_undecided y ne u))))
       (cases_eq y x)
 
+  grows : Grows h h'
+  grows = record {
+    clock = le_refl h.clock;
+    rose = λ t n. inr (λ f. refl);
+    published = λ y p. (still_published y p, same_op y p);
+    undecided = λ y p u. was_undecided y (is_other y p) u;
+    decided = λ y d. stage_other y (λ same. absent_not_decided (h.stage x) can.is_new
+        (subst (λ (z : ℕ). IsDecided (h.stage z)) same d));
+    draws = λ t y drew. drew;
+    held = λ y n f u is. is;
+    in_use = λ n is. is;
+    looked = looked_stays h h' (λ t n. refl) (λ y p. (still_published y p, same_op y p))
+        (λ y p u. was_undecided y (is_other y p) u) same_value (λ t y drew. (rule.drawn y t drew).0)
+        (λ t y lt drew. drew);
+    owner = λ y. refl;
+    times = λ y p. time_other y (is_other y p);
+    cleared = λ y c le is. is;
+    now = λ n. le_refl (cells_now h n Version);
+  }
+
+  told_still : (y : ℕ) (w : Cause) → h'.stage y ≡ aborted w → IsCause h' y w
+  told_still y w is = ⊎_elim
+      (λ here. absurd (let clash : undecided ≡ aborted w = here.1 in cc))
+      (λ other. cause_stays h h' grows y w (aborted_is_published (h.stage y) w other.1) (rule.told y w other.1))
+      (from_updated h.stage x undecided (λ (st : Stage). st ≡ aborted w) y is)
+
+  running_still : (y : ℕ) → (IsDecided (h'.stage y) → ⊥) → h.cleared_at y ≡ None
+  running_still y not_decided = rule.running y (λ d. not_decided (subst IsDecided
+      (sym (stage_other y (is_other y (decided_is_published (h.stage y) d)))) d))
+
   rule_kept : Rule h'
   rule_kept = record {
     run = rule.run;
@@ -146,22 +179,9 @@ module _ (h : History) (rule : Rule h) (x : ℕ) (e : Exchange) (b : ℕ) (can :
     fresh = fresh_still;
     apart = apart_still;
     saw = saw_still;
-  }
-
-  grows : Grows h h'
-  grows = record {
-    clock = le_refl h.clock;
-    rose = λ t n. inr (λ f. refl);
-    published = λ y p. (still_published y p, same_op y p);
-    undecided = λ y p u. was_undecided y (is_other y p) u;
-    decided = λ y d. stage_other y (λ same. absent_not_decided (h.stage x) can.is_new
-        (subst (λ (z : ℕ). IsDecided (h.stage z)) same d));
-    draws = λ t y drew. drew;
-    held = λ y n f u is. is;
-    in_use = λ n is. is;
-    looked = looked_stays h h' (λ t n. refl) (λ y p. (still_published y p, same_op y p))
-        (λ y p u. was_undecided y (is_other y p) u) same_value (λ t y drew. (rule.drawn y t drew).0)
-        (λ t y lt drew. drew);
+    told = told_still;
+    uncleared = rule.uncleared;
+    running = running_still;
   }
 
   publishes_keep : Keeps h h'

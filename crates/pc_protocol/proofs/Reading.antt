@@ -18,8 +18,8 @@ use Rattle.pc_protocol.specs.Histories.{IsUndecided, Drew}
 use Rattle.pc_protocol.specs.Seeing.{Visits, ChangesVersion, Covers, SawWord, Saw}
 use Rattle.pc_protocol.specs.Rules.{IsTaken, IsReady, Rule}
 use Rattle.pc_protocol.specs.Steps.{Keeps, take_read, CanRead}
-use Rattle.pc_protocol.proofs.Stages.{none_not_some, undecided_is_published, no_read}
-use Rattle.pc_protocol.proofs.Notes.{Grows, notes_stay, looked_stays, saw_later}
+use Rattle.pc_protocol.proofs.Stages.{none_not_some, undecided_is_published, aborted_is_published}
+use Rattle.pc_protocol.proofs.Notes.{Grows, cause_stays, notes_stay, looked_stays}
 use Rattle.pc_protocol.proofs.Drawn.{passed_version, passed_others}
 
 -- an exchange without changes and fresh node leaves the cells as they are
@@ -129,6 +129,25 @@ module _ (h : History) (rule : Rule h) (p s : ℕ) (e : Exchange) (can : CanRead
     fresh = λ g f is. absurd (no_fresh e can.no_fresh g is);
   }
 
+  grows : Grows h h'
+  grows = record {
+    clock = le_refl h.clock;
+    rose = entered.risen;
+    published = λ x p. (p, refl);
+    undecided = λ x p u. u;
+    decided = λ x d. refl;
+    draws = λ t x drew. drew;
+    held = λ x n f u is. is;
+    in_use = λ n is. is;
+    looked = looked_stays h h' (λ t n. λ i. same_at t i n Version) (λ x p. (p, refl)) (λ x p u. u)
+        (λ x old new p. refl) (λ t x drew. (rule.drawn x t drew).0) (λ t x lt drew. drew);
+    owner = λ x. refl;
+    times = λ x p. refl;
+    cleared = λ x c le is. is;
+    now = λ n. let same : cells_now h' n Version ≡ cells_now h n Version = (λ i. same_now i n Version) in
+        omega (arith, same);
+  }
+
   rule_kept : Rule h'
   rule_kept = record {
     run = entered.run;
@@ -153,23 +172,15 @@ module _ (h : History) (rule : Rule h) (p s : ℕ) (e : Exchange) (can : CanRead
     fresh = λ x g u is. subst (λ (c : Cells). IsReady c h.plain h.slot g) (sym same_now) (rule.fresh x g u is);
     apart = rule.apart;
     saw = λ x u. subst (λ (at : ℕ → Cells). Saw at (h.published_at x) (h.op x)) (sym same_moments) (rule.saw x u);
+    told = λ x w is. cause_stays h h' grows x w (aborted_is_published (h.stage x) w is) (rule.told x w is);
+    uncleared = rule.uncleared;
+    running = rule.running;
   }
 
   reads_keep : Keeps h h'
   reads_keep = record {
     rule = rule_kept;
-    notes = notes_stay h h' never_falls (record {
-          clock = le_refl h.clock;
-          rose = entered.risen;
-          published = λ x p. (p, refl);
-          undecided = λ x p u. u;
-          decided = λ x d. refl;
-          draws = λ t x drew. drew;
-          held = λ x n f u is. is;
-          in_use = λ n is. is;
-          looked = looked_stays h h' (λ t n. λ i. same_at t i n Version) (λ x p. (p, refl)) (λ x p u. u)
-              (λ x old new p. refl) (λ t x drew. (rule.drawn x t drew).0) (λ t x lt drew. drew);
-        });
+    notes = notes_stay h h' never_falls grows;
   }
 
 pub read_keeps : (h : History) → Rule h → (p s : ℕ) (e : Exchange) → CanRead h p s e → Keeps h (take_read h s e)

@@ -1,6 +1,6 @@
 -- Stages, slots and the numbers of exchanges: what excludes what.
 use Rattle.std.proofs.Common.{◌≡◌, ◌≢◌, ℕ, ◌⊎◌, inl, inr, Option, Some, None, refl, sym, ap, ◌∙◌, subst}
-use Rattle.pc_protocol.specs.Histories.{Drawer, for_exchange, for_read, Stage, absent, undecided, committed, aborted}
+use Rattle.pc_protocol.specs.Histories.{Drawer, for_exchange, for_read, Cause, Stage, absent, undecided, committed, aborted}
 use Rattle.pc_protocol.specs.Histories.{Slot, free, spare, used, IsPublished, IsUndecided, IsDecided, value_by, IsFree}
 use Rattle.pc_protocol.specs.Histories.{IsSpare, IsUsed, IsForRead}
 
@@ -41,6 +41,15 @@ committed_not_undecided st s is u = subst IsUndecided is u
 pub committed_is_published : (st : Stage) (s : ℕ) → st ≡ committed s → IsPublished st
 committed_is_published st s is = subst IsPublished (sym is) tt
 
+pub aborted_is_published : (st : Stage) (cause : Cause) → st ≡ aborted cause → IsPublished st
+aborted_is_published st cause is = subst IsPublished (sym is) tt
+
+pub decided_is_published : (st : Stage) → IsDecided st → IsPublished st
+decided_is_published absent d = absurd d
+decided_is_published undecided d = tt
+decided_is_published (committed s) d = tt
+decided_is_published (aborted cause) d = tt
+
 pub committed_not_absent : (s : ℕ) → committed s ≡ absent → ⊥
 committed_not_absent s e = cc
 
@@ -49,6 +58,9 @@ undecided_not_committed s e = cc
 
 pub aborted_not_committed : (st : Stage) (s : ℕ) → IsUndecided st → st ≡ committed s → ⊥
 aborted_not_committed st s u is = subst IsUndecided is u
+
+pub same_cause : (v w : Cause) → aborted v ≡ aborted w → v ≡ w
+same_cause v w e = cc
 
 pub same_stamp : (s t : ℕ) → committed s ≡ committed t → s ≡ t
 same_stamp s t e = cc

@@ -1,21 +1,22 @@
 -- Steps on one word or one slot keep the rule and every note: a reference is put or taken out, a word of a spare is
 -- filled, a free slot is taken as a spare, and the clock is read after clearing.
-use Rattle.std.proofs.Common.{◌≡◌, ◌≢◌, ℕ, ◌<◌, ◌≤◌, ◌⊎◌, inl, inr, ⊎_elim, Option, Some, refl, sym, ap, ◌∙◌, subst, arith}
+use Rattle.std.proofs.Common.{◌≡◌, ◌≢◌, ℕ, ◌<◌, ◌≤◌, ◌⊎◌, inl, inr, ⊎_elim, Option, Some, None, refl, sym, ap, ◌∙◌, subst, arith}
 use Rattle.std.proofs.Common.{le_refl}
 use Rattle.pc_model.specs.declared.cell.Field.{Field}
+use Rattle.pc_model.specs.declared.cell.Field.TheVariants.{Version}
 use Rattle.pc_model.specs.Exchanges.{Changed, FreshNode, Exchange}
 use Rattle.pc_history.specs.Updates.{updated, word_updated}
 use Rattle.pc_history.specs.Footprints.{IsAmong}
 use Rattle.pc_history.proofs.Moments.{versions_never_fall}
 use Rattle.pc_history.proofs.Updates.{word_updated_other, on_word_updated, from_word_updated, on_updated, from_updated}
 use Rattle.pc_protocol.specs.Histories.{Slot, spare, History, moments, cells_now, IsPublished, IsUndecided, IsFree}
-use Rattle.pc_protocol.specs.Histories.{IsSpare, IsUsed, Drew}
-use Rattle.pc_protocol.specs.Rules.{Refers, IsReady, Rule}
-use Rattle.pc_protocol.specs.Steps.{Keeps, refer, CanRefer, fill, CanFill, take_slot, clear}
+use Rattle.pc_protocol.specs.Histories.{IsDecided, IsSpare, IsUsed, Drew}
+use Rattle.pc_protocol.specs.Rules.{Refers, IsReady, IsFrom, Rule}
+use Rattle.pc_protocol.specs.Steps.{Keeps, refer, CanRefer, fill, CanFill, take_slot, clear, CanClear}
 use Rattle.pc_protocol.proofs.Stages.{same_option, undecided_is_published, spare_not_used, used_not_spare, free_not_used}
-use Rattle.pc_protocol.proofs.Stages.{free_not_spare}
+use Rattle.pc_protocol.proofs.Stages.{aborted_is_published}
 use Rattle.pc_protocol.proofs.Items.{refers_stays}
-use Rattle.pc_protocol.proofs.Notes.{Grows, notes_stay, looked_stays}
+use Rattle.pc_protocol.proofs.Notes.{Grows, cause_stays, notes_stay, looked_stays}
 
 -- a reference is put into a word or taken out
 module _ (h : History) (rule : Rule h) (n : ℕ) (f : Field) (r : Option ℕ) (can : CanRefer h n f r) where
@@ -34,6 +35,24 @@ module _ (h : History) (rule : Rule h) (n : ℕ) (f : Field) (r : Option ℕ) (c
       (λ other. rule.refers m g x other.1)
       (from_word_updated h.reference n f r (λ (o : Option ℕ). o ≡ Some x) m g is)
 
+  refer_grows : Grows h (refer h n f r)
+  refer_grows = record {
+    clock = le_refl h.clock;
+    rose = λ t m. inr (λ g. refl);
+    published = λ x p. (p, refl);
+    undecided = λ x p u. u;
+    decided = λ x d. refl;
+    draws = λ t x drew. drew;
+    held = λ x m g u is. still_held x m g u is;
+    in_use = λ m is. is;
+    looked = looked_stays h (refer h n f r) (λ t m. refl) (λ x p. (p, refl)) (λ x p u. u)
+        (λ x old new p. refl) (λ t x drew. (rule.drawn x t drew).0) (λ t x lt drew. drew);
+    owner = λ y. refl;
+    times = λ y p. refl;
+    cleared = λ y c le is. is;
+    now = λ m. le_refl (cells_now h m Version);
+  }
+
   pub refer_keeps : Keeps h (refer h n f r)
   refer_keeps = record {
     rule = record {
@@ -51,19 +70,13 @@ module _ (h : History) (rule : Rule h) (n : ℕ) (f : Field) (r : Option ℕ) (c
           fresh = rule.fresh;
           apart = rule.apart;
           saw = rule.saw;
+          told = λ y w is. cause_stays h (refer h n f r) refer_grows y w (aborted_is_published (h.stage y) w is)
+              (rule.told y w is);
+          uncleared = λ m g y is. ⊎_elim (λ here. can.uncleared y here.2) (λ other. rule.uncleared m g y other.1)
+              (from_word_updated h.reference n f r (λ (o : Option ℕ). o ≡ Some y) m g is);
+          running = rule.running;
         };
-    notes = notes_stay h (refer h n f r) (versions_never_fall h.opening h.clock h.item rule.run) (record {
-          clock = le_refl h.clock;
-          rose = λ t m. inr (λ g. refl);
-          published = λ x p. (p, refl);
-          undecided = λ x p u. u;
-          decided = λ x d. refl;
-          draws = λ t x drew. drew;
-          held = λ x m g u is. still_held x m g u is;
-          in_use = λ m is. is;
-          looked = looked_stays h (refer h n f r) (λ t m. refl) (λ x p. (p, refl)) (λ x p u. u)
-              (λ x old new p. refl) (λ t x drew. (rule.drawn x t drew).0) (λ t x lt drew. drew);
-        });
+    notes = notes_stay h (refer h n f r) (versions_never_fall h.opening h.clock h.item rule.run) refer_grows;
   }
 
 -- a word of a spare is filled, whose node no exchange names that isn't decided
@@ -73,6 +86,24 @@ module _ (h : History) (rule : Rule h) (n : ℕ) (f : Field) (v : ℕ) (can : Ca
 
   not_here : (m : ℕ) → (IsSpare (h.slot m) → ⊥) → m ≢ n
   not_here m not_spare same = not_spare (subst (λ (k : ℕ). IsSpare (h.slot k)) (sym same) can.is_spare)
+
+  fill_grows : Grows h (fill h n f v)
+  fill_grows = record {
+    clock = le_refl h.clock;
+    rose = λ t m. inr (λ g. refl);
+    published = λ x p. (p, refl);
+    undecided = λ x p u. u;
+    decided = λ x d. refl;
+    draws = λ t x drew. drew;
+    held = λ x m g u is. is;
+    in_use = λ m is. is;
+    looked = looked_stays h (fill h n f v) (λ t m. refl) (λ x p. (p, refl)) (λ x p u. u)
+        (λ x old new p. refl) (λ t x drew. (rule.drawn x t drew).0) (λ t x lt drew. drew);
+    owner = λ y. refl;
+    times = λ y p. refl;
+    cleared = λ y c le is. is;
+    now = λ m. le_refl (cells_now h m Version);
+  }
 
   pub fill_keeps : Keeps h (fill h n f v)
   fill_keeps = record {
@@ -97,19 +128,12 @@ module _ (h : History) (rule : Rule h) (n : ℕ) (f : Field) (v : ℕ) (can : Ca
               };
           apart = rule.apart;
           saw = rule.saw;
+          told = λ y w is. cause_stays h (fill h n f v) fill_grows y w (aborted_is_published (h.stage y) w is)
+              (rule.told y w is);
+          uncleared = rule.uncleared;
+          running = rule.running;
         };
-    notes = notes_stay h (fill h n f v) (versions_never_fall h.opening h.clock h.item rule.run) (record {
-          clock = le_refl h.clock;
-          rose = λ t m. inr (λ g. refl);
-          published = λ x p. (p, refl);
-          undecided = λ x p u. u;
-          decided = λ x d. refl;
-          draws = λ t x drew. drew;
-          held = λ x m g u is. is;
-          in_use = λ m is. is;
-          looked = looked_stays h (fill h n f v) (λ t m. refl) (λ x p. (p, refl)) (λ x p u. u)
-              (λ x old new p. refl) (λ t x drew. (rule.drawn x t drew).0) (λ t x lt drew. drew);
-        });
+    notes = notes_stay h (fill h n f v) (versions_never_fall h.opening h.clock h.item rule.run) fill_grows;
   }
 
 -- a free slot is taken as a spare
@@ -121,6 +145,24 @@ module _ (h : History) (rule : Rule h) (n : ℕ) (is_free : IsFree (h.slot n)) w
 
   still_spare : (m : ℕ) → IsSpare (h.slot m) → IsSpare (updated h.slot n spare m)
   still_spare m is = on_updated h.slot n spare IsSpare m (λ same. tt) (λ ne. is)
+
+  take_slot_grows : Grows h (take_slot h n)
+  take_slot_grows = record {
+    clock = le_refl h.clock;
+    rose = λ t m. inr (λ g. refl);
+    published = λ x p. (p, refl);
+    undecided = λ x p u. u;
+    decided = λ x d. refl;
+    draws = λ t x drew. drew;
+    held = λ x m g u is. is;
+    in_use = still_used;
+    looked = looked_stays h (take_slot h n) (λ t m. refl) (λ x p. (p, refl)) (λ x p u. u)
+        (λ x old new p. refl) (λ t x drew. (rule.drawn x t drew).0) (λ t x lt drew. drew);
+    owner = λ y. refl;
+    times = λ y p. refl;
+    cleared = λ y c le is. is;
+    now = λ m. le_refl (cells_now h m Version);
+  }
 
   pub take_slot_keeps : Keeps h (take_slot h n)
   take_slot_keeps = record {
@@ -145,23 +187,34 @@ module _ (h : History) (rule : Rule h) (n : ℕ) (is_free : IsFree (h.slot n)) w
               };
           apart = rule.apart;
           saw = rule.saw;
+          told = λ y w is. cause_stays h (take_slot h n) take_slot_grows y w (aborted_is_published (h.stage y) w is)
+              (rule.told y w is);
+          uncleared = rule.uncleared;
+          running = rule.running;
         };
-    notes = notes_stay h (take_slot h n) (versions_never_fall h.opening h.clock h.item rule.run) (record {
-          clock = le_refl h.clock;
-          rose = λ t m. inr (λ g. refl);
-          published = λ x p. (p, refl);
-          undecided = λ x p u. u;
-          decided = λ x d. refl;
-          draws = λ t x drew. drew;
-          held = λ x m g u is. is;
-          in_use = still_used;
-          looked = looked_stays h (take_slot h n) (λ t m. refl) (λ x p. (p, refl)) (λ x p u. u)
-              (λ x old new p. refl) (λ t x drew. (rule.drawn x t drew).0) (λ t x lt drew. drew);
-        });
+    notes = notes_stay h (take_slot h n) (versions_never_fall h.opening h.clock h.item rule.run) take_slot_grows;
   }
 
 -- the clock is read after clearing
-module _ (h : History) (rule : Rule h) (x : ℕ) where
+module _ (h : History) (rule : Rule h) (x : ℕ) (can : CanClear h x) where
+  clear_grows : Grows h (clear h x)
+  clear_grows = record {
+    clock = le_refl h.clock;
+    rose = λ t m. inr (λ g. refl);
+    published = λ y p. (p, refl);
+    undecided = λ y p u. u;
+    decided = λ y d. refl;
+    draws = λ t y drew. drew;
+    held = λ y m g u is. is;
+    in_use = λ m is. is;
+    looked = looked_stays h (clear h x) (λ t m. refl) (λ y p. (p, refl)) (λ y p u. u)
+        (λ y old new p. refl) (λ t y drew. (rule.drawn y t drew).0) (λ t y lt drew. drew);
+    owner = λ y. refl;
+    times = λ y p. refl;
+    cleared = λ y c le is. on_updated h.cleared_at x (Some h.clock) (IsFrom c) y (λ same. le) (λ ne. is);
+    now = λ m. le_refl (cells_now h m Version);
+  }
+
   pub clear_keeps : Keeps h (clear h x)
   clear_keeps = record {
     rule = record {
@@ -179,17 +232,13 @@ module _ (h : History) (rule : Rule h) (x : ℕ) where
           fresh = rule.fresh;
           apart = rule.apart;
           saw = rule.saw;
+          told = λ y w is. cause_stays h (clear h x) clear_grows y w (aborted_is_published (h.stage y) w is)
+              (rule.told y w is);
+          uncleared = λ m g y is. on_updated h.cleared_at x (Some h.clock) (λ (o : Option ℕ). o ≡ None) y
+              (λ same. absurd (can.no_words m g (is ∙ ap Some same))) (λ ne. rule.uncleared m g y is);
+          running = λ y not_decided. on_updated h.cleared_at x (Some h.clock) (λ (o : Option ℕ). o ≡ None) y
+              (λ same. absurd (not_decided (subst (λ (z : ℕ). IsDecided (h.stage z)) (sym same) can.decided)))
+              (λ ne. rule.running y not_decided);
         };
-    notes = notes_stay h (clear h x) (versions_never_fall h.opening h.clock h.item rule.run) (record {
-          clock = le_refl h.clock;
-          rose = λ t m. inr (λ g. refl);
-          published = λ y p. (p, refl);
-          undecided = λ y p u. u;
-          decided = λ y d. refl;
-          draws = λ t y drew. drew;
-          held = λ y m g u is. is;
-          in_use = λ m is. is;
-          looked = looked_stays h (clear h x) (λ t m. refl) (λ y p. (p, refl)) (λ y p u. u)
-              (λ y old new p. refl) (λ t y drew. (rule.drawn y t drew).0) (λ t y lt drew. drew);
-        });
+    notes = notes_stay h (clear h x) (versions_never_fall h.opening h.clock h.item rule.run) clear_grows;
   }

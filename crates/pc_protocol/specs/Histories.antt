@@ -41,7 +41,9 @@ pub record History : Type 0 where
   pub item : Items
   -- for what each stamp below the clock was drawn
   pub drawn_for : ℕ → Drawer
-  -- each exchange of each pass has one number, for ever: its stage, what it is, and the clock before it was published
+  -- each exchange of each pass has one number, for ever: its pass, its stage, what it is, and the clock before it was
+  -- published
+  pub owner : ℕ → ℕ
   pub stage : ℕ → Stage
   pub op : ℕ → Exchange
   pub published_at : ℕ → ℕ

@@ -7,6 +7,7 @@ use Rattle.pc_model.specs.Exchanges.{Changed, Exchange}
 use Rattle.pc_history.specs.Footprints.{IsAmong, IsOfWord, LeavesWord}
 use Rattle.pc_protocol.specs.Histories.{Stage, History, moments, IsPublished, IsUndecided, IsDecided, value_by, IsUsed, Drew}
 use Rattle.pc_protocol.specs.Seeing.{SawWord, Saw}
+use Rattle.pc_protocol.specs.Rules.{Rival}
 
 -- what a check finds in a version word: a number, plain or the one that an install names, or a reference
 pub data Found : Type 0 where
@@ -54,6 +55,8 @@ pub data Note : Type 0 where
   verdict : ℕ → Stage → Note
   -- the node's slot is in use
   in_use : ℕ → Note
+  -- a pass has an exchange with this node's version that wasn't cleared before this clock
+  rival : ℕ → ℕ → ℕ → Note
 
 abbrev pub IsTrueNote : History → Note → Type 0
 IsTrueNote h (visited n v b) = (b ≤ h.clock) × (v ≤ moments h b n Version)
@@ -64,3 +67,4 @@ IsTrueNote h (held x n f) = IsPublished (h.stage x) × (IsUndecided (h.stage x) 
 IsTrueNote h (drew x s) = Drew h.clock h.drawn_for s x
 IsTrueNote h (verdict x st) = (h.stage x ≡ st) × IsDecided st
 IsTrueNote h (in_use n) = IsUsed (h.slot n)
+IsTrueNote h (rival pass n c) = Rival h pass n c

@@ -4,11 +4,12 @@ use Rattle.pc_model.specs.declared.cell.Field.{Field}
 use Rattle.pc_model.specs.declared.cell.Field.TheVariants.{Version}
 use Rattle.pc_model.specs.Cells.{Cells, IsOdd}
 use Rattle.pc_model.specs.Exchanges.{Changed, FreshNode, Exchange}
-use Rattle.pc_history.specs.Footprints.{IsAmong, IsOfWord, WritesMiss, IsShaped}
+use Rattle.pc_history.specs.Footprints.{IsAmong, IsOfWord, HasChange, WritesMiss, IsShaped}
 use Rattle.pc_history.specs.Runs.{OnItem, IsRun}
-use Rattle.pc_protocol.specs.Histories.{Drawer, for_exchange, Stage, committed, Slot, History, moments, cells_now}
-use Rattle.pc_protocol.specs.Histories.{IsPublished, IsUndecided, value_by, IsSpare, IsUsed, Drew, IsForRead}
-use Rattle.pc_protocol.specs.Seeing.{Saw}
+use Rattle.pc_protocol.specs.Histories.{Drawer, for_exchange, Cause, withdrawn, changed, locked, Stage, committed, aborted}
+use Rattle.pc_protocol.specs.Histories.{Slot, History, moments, cells_now, IsPublished, IsUndecided, IsDecided, value_by}
+use Rattle.pc_protocol.specs.Histories.{IsSpare, IsUsed, Drew, IsForRead}
+use Rattle.pc_protocol.specs.Seeing.{Covers, Saw}
 
 -- what stands in the run at a stamp: a read, which changes nothing, at a stamp for one; or the exchange that took
 -- effect at this stamp, which was drawn for it
@@ -33,6 +34,32 @@ pub record IsReady (now plain : Cells) (slot : ℕ → Slot) (g : FreshNode) : T
   pub is_spare : IsSpare (slot g.node)
   pub version : g.fields Version ≡ now g.node Version + 1
   pub filled : (f : Field) → plain g.node f ≡ g.fields f
+
+-- this clock isn't above the one that was read after clearing, if it was
+abbrev pub IsFrom : ℕ → Option ℕ → Type 0
+IsFrom c None = Unit {0}
+IsFrom c (Some cleared) = c ≤ cleared
+
+-- A pass has an exchange with the version of a node among its words, which isn't cleared, or whose clock after clearing
+-- isn't below this one.
+pub record IsRival (owner : ℕ → ℕ) (stage : ℕ → Stage) (op : ℕ → Exchange) (cleared_at : ℕ → Option ℕ) (clock : ℕ)
+    (pass n c : ℕ) : Type 0 where
+  pub exchange : ℕ
+  pub owned : owner exchange ≡ pass
+  pub published : IsPublished (stage exchange)
+  pub changes : HasChange (op exchange) n Version
+  pub past : c ≤ clock
+  pub cleared : IsFrom c (cleared_at exchange)
+
+abbrev pub Rival : History → ℕ → ℕ → ℕ → Type 0
+Rival h = IsRival h.owner h.stage h.op h.cleared_at h.clock
+
+-- why an exchange may fail: its owner withdraws; a node has a greater version than the one that it covers; another
+-- pass is its rival since before it was published
+abbrev pub IsCause : History → ℕ → Cause → Type 0
+IsCause h x withdrawn = Unit {0}
+IsCause h x (changed n) = (v : ℕ) × Covers (h.op x) n v × (v < cells_now h n Version)
+IsCause h x (locked n pass) = (pass ≢ h.owner x) × Rival h pass n (h.published_at x)
 
 pub record Rule (h : History) : Type 0 where
   -- the run: nothing stands from the clock on, each exchange stands in the cells at its stamp, and versions rise
@@ -64,3 +91,8 @@ pub record Rule (h : History) : Type 0 where
       → (h.op x).fresh ≡ Some g → (h.op y).fresh ≡ Some k → g.node ≢ k.node
   -- what an exchange saw before it was published
   pub saw : (x : ℕ) → IsUndecided (h.stage x) → Saw (moments h) (h.published_at x) (h.op x)
+  -- an exchange that failed has its cause
+  pub told : (x : ℕ) (cause : Cause) → h.stage x ≡ aborted cause → IsCause h x cause
+  -- the clock after clearing is read once an exchange is decided and no word has its reference
+  pub uncleared : (n : ℕ) (f : Field) (x : ℕ) → h.reference n f ≡ Some x → h.cleared_at x ≡ None
+  pub running : (x : ℕ) → (IsDecided (h.stage x) → ⊥) → h.cleared_at x ≡ None

@@ -21,7 +21,7 @@ pub record ChangesVersion (e : Exchange) (n v : ℕ) : Type 0 where
   pub is_of : IsOfWord n Version change
   pub old : change.old ≡ v
 
--- it stands only where the node has this version
+-- it can stand only where the node has this version
 abbrev pub Covers : Exchange → ℕ → ℕ → Type 0
 Covers e n v = Visits e n v ⊎ ChangesVersion e n v
 

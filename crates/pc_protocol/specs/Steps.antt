@@ -8,9 +8,9 @@ use Rattle.pc_history.specs.Footprints.{IsAmong, IsOfWord, IsShaped}
 use Rattle.pc_history.specs.Runs.{put_item}
 use Rattle.pc_protocol.specs.Histories.{Drawer, for_exchange, for_read, Cause, Stage, absent, undecided, committed, aborted}
 use Rattle.pc_protocol.specs.Histories.{Slot, free, spare, used, History, moments, cells_now, IsPublished, IsUndecided}
-use Rattle.pc_protocol.specs.Histories.{value_by, IsFree, IsSpare, Drew}
+use Rattle.pc_protocol.specs.Histories.{IsDecided, value_by, IsFree, IsSpare, Drew}
 use Rattle.pc_protocol.specs.Seeing.{ChangesVersion, Saw}
-use Rattle.pc_protocol.specs.Rules.{Refers, IsReady, Rule}
+use Rattle.pc_protocol.specs.Rules.{Refers, IsReady, IsCause, Rule}
 use Rattle.pc_protocol.specs.Notes.{Found, value, by, Looked, Note, IsTrueNote}
 
 -- the rule still holds, and what was noted is still true
@@ -86,6 +86,10 @@ pub record CanCommit (h : History) (x s : ℕ) : Type 0 where
 abbrev pub abort : History → ℕ → Cause → History
 abort h x cause = record h { stage = updated h.stage x (aborted cause) }
 
+pub record CanAbort (h : History) (x : ℕ) (w : Cause) : Type 0 where
+  pub undecided : IsUndecided (h.stage x)
+  pub cause : IsCause h x w
+
 -- A read takes effect at a stamp that was drawn for it
 
 abbrev pub take_read : History → ℕ → Exchange → History
@@ -106,9 +110,10 @@ pub record CanRead (h : History) (p s : ℕ) (e : Exchange) : Type 0 where
 abbrev pub refer : History → ℕ → Field → Option ℕ → History
 refer h n f r = record h { reference = word_updated h.reference n f r }
 
--- what is put there refers; and the reference of an exchange that isn't decided stays
+-- what is put there refers, to an exchange that isn't cleared; and the reference of one that isn't decided stays
 pub record CanRefer (h : History) (n : ℕ) (f : Field) (r : Option ℕ) : Type 0 where
   pub refers : (x : ℕ) → r ≡ Some x → Refers h.stage h.op h.plain h.slot n f x
+  pub uncleared : (x : ℕ) → r ≡ Some x → h.cleared_at x ≡ None
   pub stays : (y : ℕ) → h.reference n f ≡ Some y → IsUndecided (h.stage y) → r ≡ Some y
 
 -- A word of a spare is filled
@@ -129,3 +134,8 @@ take_slot h n = record h { slot = updated h.slot n spare }
 
 abbrev pub clear : History → ℕ → History
 clear h x = record h { cleared_at = updated h.cleared_at x (Some h.clock) }
+
+-- it is decided, and no word has its reference
+pub record CanClear (h : History) (x : ℕ) : Type 0 where
+  pub decided : IsDecided (h.stage x)
+  pub no_words : (n : ℕ) (f : Field) → h.reference n f ≡ Some x → ⊥
