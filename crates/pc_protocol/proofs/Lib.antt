@@ -3,7 +3,10 @@ pub mod Commits
 pub mod Drawn
 pub mod Draws
 pub mod Items
+pub mod Loads
 pub mod Notes
+pub mod Openings
+pub mod Protocol
 pub mod Publishing
 pub mod Reading
 pub mod Slots

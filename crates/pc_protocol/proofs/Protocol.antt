@@ -1,0 +1,74 @@
+-- The laws of the protocol, from the rule and its steps.
+use Rattle.std.proofs.Common.{◌≡◌, ℕ, ◌≤◌, inl, inr, ⊎_elim, List, [], Option, Some, None, refl, sym, ap, ◌∙◌, subst}
+use Rattle.pc_model.specs.Cells.{Cells}
+use Rattle.pc_model.specs.Exchanges.{Exchange, Stands, applied}
+use Rattle.pc_model.specs.Forms.{Form, IsSound, Fits}
+use Rattle.pc_history.specs.Runs.{OnItem}
+use Rattle.pc_history.proofs.SoundRuns.{runs_stay_sound}
+use Rattle.pc_history.proofs.WorldRuns.{runs_are_world_runs}
+use Rattle.pc_protocol.specs.Histories.{for_exchange, Stage, committed, History, moments, IsPublished}
+use Rattle.pc_protocol.specs.Rules.{IsTaken, Rule}
+use Rattle.pc_protocol.specs.ProtocolLaws.{StepsKeepTheRule, StandsAtStamp, RuleTells, CellsStaySound}
+use Rattle.pc_protocol.proofs.Stages.{committed_is_published}
+use Rattle.pc_protocol.proofs.Items.{on_item_map, at_item}
+use Rattle.pc_protocol.proofs.Draws.{draw_keeps, read_draw_keeps}
+use Rattle.pc_protocol.proofs.Publishing.{publish_keeps}
+use Rattle.pc_protocol.proofs.Commits.{commit_keeps}
+use Rattle.pc_protocol.proofs.Aborts.{abort_keeps}
+use Rattle.pc_protocol.proofs.Reading.{read_keeps, changes_nothing}
+use Rattle.pc_protocol.proofs.Words.{refer_keeps, fill_keeps, take_slot_keeps, clear_keeps}
+use Rattle.pc_protocol.proofs.Loads.{loads_tell}
+
+pub steps_keep_the_rule : (h : History) → Rule h → StepsKeepTheRule h
+steps_keep_the_rule h rule = record {
+  draws = draw_keeps h rule;
+  read_draws = read_draw_keeps h rule;
+  publishes = publish_keeps h rule;
+  commits = commit_keeps h rule;
+  aborts = abort_keeps h rule;
+  reads = read_keeps h rule;
+  refers = refer_keeps h rule;
+  fills = fill_keeps h rule;
+  takes_slots = take_slot_keeps h rule;
+  clears = clear_keeps h rule;
+}
+
+committed_stands_at : (h : History) → Rule h → (x s : ℕ) → h.stage x ≡ committed s → StandsAtStamp h x s
+committed_stands_at h rule x s is = record {
+  below = (rule.standing x s is).0.0;
+  since = (rule.drawn x s (rule.standing x s is).0).1;
+  item = (rule.standing x s is).1;
+  stands = at_item (λ e. Stands e (moments h s)) (h.item s) (h.op x) (rule.standing x s is).1 (rule.run.stands s);
+}
+
+pub rule_tells : (h : History) → Rule h → RuleTells h
+rule_tells h rule = record {
+  world = runs_are_world_runs h.opening h.clock h.item rule.run;
+  committed_stands = committed_stands_at h rule;
+  cause = rule.told;
+  loads = loads_tell h rule;
+}
+
+-- a read fits any form, and charges nothing
+read_fits : (form : Form) (slots : ℕ) (e : Exchange) → e.changes ≡ [] → e.fresh ≡ None → Fits form slots e []
+read_fits form slots e changes fresh = record {
+  leaves = λ c sound stands. subst (IsSound form slots) (sym (changes_nothing e changes fresh c)) sound;
+  charges = λ c k sound stands debt. inl (subst (λ (d : Cells). form.in_debt slots d k)
+      (changes_nothing e changes fresh c) debt);
+}
+
+pub cells_stay_sound : (form : Form) → CellsStaySound form
+cells_stay_sound form slots h charged rule fits sound =
+    runs_stay_sound form slots h.opening h.clock h.item rule.run
+    (λ t. on_item_map (IsTaken (h.drawn_for t) h.stage h.op t)
+    (λ e. (keys : List ℕ) × Fits form slots e keys) (h.item t)
+    (λ e taken. ⊎_elim
+    (λ read. ([], read_fits form slots e read.1 read.2))
+    (λ drawn. (
+      charged drawn.0,
+      subst (λ (d : Exchange). Fits form slots d (charged drawn.0)) (sym drawn.3)
+          (fits drawn.0 (committed_is_published (h.stage drawn.0) t drawn.2)),
+    ))
+    taken)
+    (rule.taken t))
+    sound
