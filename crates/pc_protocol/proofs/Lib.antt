@@ -12,3 +12,4 @@ pub mod Reading
 pub mod Slots
 pub mod Stages
 pub mod Words
+pub mod Worked

@@ -12,7 +12,7 @@ use Rattle.pc_protocol.specs.Openings.{opened, opening_slots}
 use Rattle.pc_protocol.specs.ProtocolLaws.{RuleHoldsAtOpenings}
 use Rattle.pc_protocol.proofs.Stages.{none_not_some}
 
-nothing_yet : (cells : Cells) (t : ℕ) → cells_at cells (λ _. None) t ≡ cells
+pub nothing_yet : (cells : Cells) (t : ℕ) → cells_at cells (λ _. None) t ≡ cells
 nothing_yet cells zero = refl
 nothing_yet cells (suc t) = nothing_yet cells t
 
