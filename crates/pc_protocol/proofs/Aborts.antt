@@ -81,6 +81,7 @@ module _ (h : History) (rule : Rule h) (x : ℕ) (cause : Cause) (can : CanAbort
     times = λ y p. refl;
     cleared = λ y c le is. is;
     now = λ n. le_refl (cells_now h n Version);
+    items = λ t d is. is;
   }
 
   told_still : (y : ℕ) (w : Cause) → h'.stage y ≡ aborted w → IsCause h' y w

@@ -354,6 +354,8 @@ module _ (h : History) (rule : Rule h) (x s : ℕ) (can : CanCommit h x s) where
     times = λ y p. refl;
     cleared = λ y c le is. is;
     now = λ n. as_great (moments h) (moments h') never_falls entered.risen h.clock n;
+    items = λ t d is. updated_other h.item s (Some e) t (λ same. none_not_some d
+        (sym empty_there ∙ ap h.item (sym same) ∙ is)) ∙ is;
   }
 
   told_still : (y : ℕ) (w : Cause) → h'.stage y ≡ aborted w → IsCause h' y w
@@ -392,8 +394,3 @@ module _ (h : History) (rule : Rule h) (x s : ℕ) (can : CanCommit h x s) where
 
 pub commit_keeps : (h : History) → Rule h → (x s : ℕ) → CanCommit h x s → Keeps h (commit h x s)
 commit_keeps h rule x s can = commits_keep h rule x s can
-
--- the exchange stands in the cells at its stamp, which are as before
-pub commit_stands : (h : History) → Rule h → (x s : ℕ) → CanCommit h x s → Stands (h.op x) (moments (commit h x s) s)
-commit_stands h rule x s can = subst (Stands (h.op x)) (sym ((entered h rule x s can).lower s (le_refl s)))
-    (stands_at h rule x s can)

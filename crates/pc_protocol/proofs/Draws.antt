@@ -64,6 +64,7 @@ module _ (h : History) (rule : Rule h) (d : Drawer) (may : (x : ℕ) → d ≡ f
     cleared = λ x c le is. is;
     now = λ n. let same : cells_now h' n Version ≡ cells_now h n Version = (λ i. same_now i n Version) in
         omega (arith, same);
+    items = λ t d is. is;
   }
 
   rule_kept : Rule h'

@@ -13,7 +13,8 @@ use Rattle.pc_protocol.specs.Histories.{IsUndecided, IsDecided, value_by, IsUsed
 use Rattle.pc_protocol.specs.Seeing.{Covers, SawWord, Saw}
 use Rattle.pc_protocol.specs.Rules.{IsFrom, Rival, IsCause}
 use Rattle.pc_protocol.specs.Notes.{Found, value, by, IsBy, IsBoundedBy, IsBelowFound, Looked, Note, visited, read_word}
-use Rattle.pc_protocol.specs.Notes.{saw, looked, held, drew, verdict, in_use, rival, IsTrueNote}
+use Rattle.pc_protocol.specs.Notes.{saw, looked, held, drew, verdict, in_use, rival, in_run}
+use Rattle.pc_protocol.specs.Notes.{IsTrueNote}
 
 -- at each moment a node's version rose, or the node is as before
 abbrev pub Rose : (ℕ → Cells) → (ℕ → Cells) → Type 0
@@ -75,6 +76,7 @@ pub record Grows (h h' : History) : Type 0 where
   pub times : (x : ℕ) → IsPublished (h.stage x) → h'.published_at x ≡ h.published_at x
   pub cleared : (x c : ℕ) → c ≤ h.clock → IsFrom c (h.cleared_at x) → IsFrom c (h'.cleared_at x)
   pub now : (n : ℕ) → cells_now h n Version ≤ cells_now h' n Version
+  pub items : (s : ℕ) (e : Exchange) → h.item s ≡ Some e → h'.item s ≡ Some e
 
 -- a rival stays one, and so does a cause
 module _ (h h' : History) (grows : Grows h h') where
@@ -131,6 +133,7 @@ notes_stay h h' falls grows (verdict x st) true' = (
 )
 notes_stay h h' falls grows (in_use n) true' = grows.in_use n true'
 notes_stay h h' falls grows (rival pass n c) true' = rival_stays h h' grows pass n c true'
+notes_stay h h' falls grows (in_run s e) true' = grows.items s e true'
 
 -- Looks at a step that leaves the run as it is, and the worth of each reference
 

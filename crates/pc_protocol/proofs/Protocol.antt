@@ -1,5 +1,6 @@
 -- The laws of the protocol, from the rule and its steps.
 use Rattle.std.proofs.Common.{◌≡◌, ℕ, ◌≤◌, inl, inr, ⊎_elim, List, [], Option, Some, None, refl, sym, ap, ◌∙◌, subst}
+use Rattle.std.proofs.lemmas.Bool.{cases_lt}
 use Rattle.pc_model.specs.Cells.{Cells}
 use Rattle.pc_model.specs.Exchanges.{Exchange, Stands, applied}
 use Rattle.pc_model.specs.Forms.{Form, IsSound, Fits}
@@ -8,8 +9,8 @@ use Rattle.pc_history.proofs.SoundRuns.{runs_stay_sound}
 use Rattle.pc_history.proofs.WorldRuns.{runs_are_world_runs}
 use Rattle.pc_protocol.specs.Histories.{for_exchange, Stage, committed, History, moments, IsPublished}
 use Rattle.pc_protocol.specs.Rules.{IsTaken, Rule}
-use Rattle.pc_protocol.specs.ProtocolLaws.{StepsKeepTheRule, StandsAtStamp, RuleTells, CellsStaySound}
-use Rattle.pc_protocol.proofs.Stages.{committed_is_published}
+use Rattle.pc_protocol.specs.ProtocolLaws.{StepsKeepTheRule, StandsAtStamp, StandsInRun, RuleTells, CellsStaySound}
+use Rattle.pc_protocol.proofs.Stages.{none_not_some, committed_is_published}
 use Rattle.pc_protocol.proofs.Items.{on_item_map, at_item}
 use Rattle.pc_protocol.proofs.Draws.{draw_keeps, read_draw_keeps}
 use Rattle.pc_protocol.proofs.Publishing.{publish_keeps}
@@ -41,10 +42,20 @@ committed_stands_at h rule x s is = record {
   stands = at_item (λ e. Stands e (moments h s)) (h.item s) (h.op x) (rule.standing x s is).1 (rule.run.stands s);
 }
 
+item_stands_at : (h : History) → Rule h → (s : ℕ) (e : Exchange) → h.item s ≡ Some e → StandsInRun h s e
+item_stands_at h rule s e is = record {
+  below = ⊎_elim
+      (λ below. below)
+      (λ above. absurd (none_not_some e (sym (rule.run.late s above) ∙ is)))
+      (cases_lt s h.clock);
+  stands = at_item (λ d. Stands d (moments h s)) (h.item s) e is (rule.run.stands s);
+}
+
 pub rule_tells : (h : History) → Rule h → RuleTells h
 rule_tells h rule = record {
   world = runs_are_world_runs h.opening h.clock h.item rule.run;
   committed_stands = committed_stands_at h rule;
+  item_stands = item_stands_at h rule;
   cause = rule.told;
   loads = loads_tell h rule;
 }

@@ -148,6 +148,7 @@ module _ (h : History) (rule : Rule h) (x : ℕ) (e : Exchange) (b : ℕ) (can :
     times = λ y p. time_other y (is_other y p);
     cleared = λ y c le is. is;
     now = λ n. le_refl (cells_now h n Version);
+    items = λ t d is. is;
   }
 
   told_still : (y : ℕ) (w : Cause) → h'.stage y ≡ aborted w → IsCause h' y w

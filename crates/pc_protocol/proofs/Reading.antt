@@ -146,6 +146,8 @@ module _ (h : History) (rule : Rule h) (p s : ℕ) (e : Exchange) (can : CanRead
     cleared = λ x c le is. is;
     now = λ n. let same : cells_now h' n Version ≡ cells_now h n Version = (λ i. same_now i n Version) in
         omega (arith, same);
+    items = λ t d is. updated_other h.item s (Some e) t (λ same. none_not_some d
+        (sym can.empty ∙ ap h.item (sym same) ∙ is)) ∙ is;
   }
 
   rule_kept : Rule h'
@@ -185,7 +187,3 @@ module _ (h : History) (rule : Rule h) (p s : ℕ) (e : Exchange) (can : CanRead
 
 pub read_keeps : (h : History) → Rule h → (p s : ℕ) (e : Exchange) → CanRead h p s e → Keeps h (take_read h s e)
 read_keeps h rule p s e can = reads_keep h rule p s e can
-
-pub read_stands : (h : History) → Rule h → (p s : ℕ) (e : Exchange) → CanRead h p s e
-    → Stands e (moments (take_read h s e) s)
-read_stands h rule p s e can = subst (Stands e) (sym (same_at h rule p s e can s)) (stands_at h rule p s e can)

@@ -51,6 +51,7 @@ module _ (h : History) (rule : Rule h) (n : ℕ) (f : Field) (r : Option ℕ) (c
     times = λ y p. refl;
     cleared = λ y c le is. is;
     now = λ m. le_refl (cells_now h m Version);
+    items = λ t d is. is;
   }
 
   pub refer_keeps : Keeps h (refer h n f r)
@@ -103,6 +104,7 @@ module _ (h : History) (rule : Rule h) (n : ℕ) (f : Field) (v : ℕ) (can : Ca
     times = λ y p. refl;
     cleared = λ y c le is. is;
     now = λ m. le_refl (cells_now h m Version);
+    items = λ t d is. is;
   }
 
   pub fill_keeps : Keeps h (fill h n f v)
@@ -162,6 +164,7 @@ module _ (h : History) (rule : Rule h) (n : ℕ) (is_free : IsFree (h.slot n)) w
     times = λ y p. refl;
     cleared = λ y c le is. is;
     now = λ m. le_refl (cells_now h m Version);
+    items = λ t d is. is;
   }
 
   pub take_slot_keeps : Keeps h (take_slot h n)
@@ -213,6 +216,7 @@ module _ (h : History) (rule : Rule h) (x : ℕ) (can : CanClear h x) where
     times = λ y p. refl;
     cleared = λ y c le is. on_updated h.cleared_at x (Some h.clock) (IsFrom c) y (λ same. le) (λ ne. is);
     now = λ m. le_refl (cells_now h m Version);
+    items = λ t d is. is;
   }
 
   pub clear_keeps : Keeps h (clear h x)

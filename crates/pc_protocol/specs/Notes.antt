@@ -57,6 +57,8 @@ pub data Note : Type 0 where
   in_use : ℕ → Note
   -- a pass has an exchange with this node's version that wasn't cleared before this clock
   rival : ℕ → ℕ → ℕ → Note
+  -- this exchange or read stands in the run at this stamp
+  in_run : ℕ → Exchange → Note
 
 abbrev pub IsTrueNote : History → Note → Type 0
 IsTrueNote h (visited n v b) = (b ≤ h.clock) × (v ≤ moments h b n Version)
@@ -68,3 +70,4 @@ IsTrueNote h (drew x s) = Drew h.clock h.drawn_for s x
 IsTrueNote h (verdict x st) = (h.stage x ≡ st) × IsDecided st
 IsTrueNote h (in_use n) = IsUsed (h.slot n)
 IsTrueNote h (rival pass n c) = Rival h pass n c
+IsTrueNote h (in_run s e) = h.item s ≡ Some e

@@ -43,10 +43,16 @@ pub record StandsAtStamp (h : History) (x s : ℕ) : Type 0 where
   pub item : h.item s ≡ Some (h.op x)
   pub stands : Stands (h.op x) (moments h s)
 
+-- what stands in the run at a stamp is below the clock, and stands in the cells that the earlier ones leave
+pub record StandsInRun (h : History) (s : ℕ) (e : Exchange) : Type 0 where
+  pub below : s < h.clock
+  pub stands : Stands e (moments h s)
+
 pub record RuleTells (h : History) : Type 0 where
   -- the list of the run below any moment is a world run, and leaves the cells at that moment
   pub world : (t : ℕ) → IsListOf h.opening h.item t (run_of h.item t)
   pub committed_stands : (x s : ℕ) → h.stage x ≡ committed s → StandsAtStamp h x s
+  pub item_stands : (s : ℕ) (e : Exchange) → h.item s ≡ Some e → StandsInRun h s e
   -- a failed exchange has its cause
   pub cause : (x : ℕ) (w : Cause) → h.stage x ≡ aborted w → IsCause h x w
   pub loads : LoadsTell h
