@@ -1,18 +1,15 @@
 -- An exchange enters a run at its stamp, below others: it is a run then, and its last cells are the old ones
 -- with the exchange made.
-use Rattle.std.proofs.Common.{◌≡◌, ◌≢◌, ℕ, zero, suc, ◌<◌, ◌≤◌, ◌⊎◌, inl, inr, ⊎_elim, Option, Some, None, refl, sym}
+use Rattle.std.proofs.Common.{◌≡◌, ◌≢◌, ℕ, zero, suc, ◌<◌, ◌≤◌, inl, inr, ⊎_elim, Option, Some, None, refl, sym}
 use Rattle.std.proofs.Common.{ap, ◌∙◌, subst, arith, le_refl}
 use Rattle.std.proofs.lemmas.Bool.{cases_eq, cases_lt}
-use Rattle.pc_model.specs.declared.cell.Field.{Field}
 use Rattle.pc_model.specs.declared.cell.Field.TheVariants.{Version}
 use Rattle.pc_model.specs.Cells.{Cells}
 use Rattle.pc_model.specs.Exchanges.{Exchange, ChangesStand, FreshStands, Stands, applied}
-use Rattle.pc_history.specs.Updates.{updated}
 use Rattle.pc_history.specs.Footprints.{WritesMiss, RaisesVersions}
 use Rattle.pc_history.specs.Runs.{Items, after, cells_at, put_item, OnItem, IsRun, MayEnter, HasRisen, HasEntered}
 use Rattle.pc_history.proofs.Updates.{updated_here, updated_other, on_updated}
 use Rattle.pc_history.proofs.Footprints.{exchanges_commute, still_stands, own_changes_still, own_fresh_stands_still}
-use Rattle.pc_history.proofs.Moments.{last_step}
 
 after_commutes : (e : Exchange) (o : Option Exchange) (c : Cells) → OnItem (WritesMiss e) o
     → after o (applied e c) ≡ applied e (after o c)
@@ -112,10 +109,10 @@ module _ (opening : Cells) (clock : ℕ) (item : Items) (run : IsRun opening clo
   pub has_entered : HasEntered opening clock item s e
   has_entered = record {
     run = record {
-          late = λ t le. is_other t (λ same. absurd (omega (arith, may.below, same, le))) ∙ run.late t le;
-          stands = stands_there;
-          raises = λ t. on_updated item s (Some e) (OnItem RaisesVersions) t (λ same. may.raises) (λ ne. run.raises t);
-        };
+      late = λ t le. is_other t (λ same. absurd (omega (arith, may.below, same, le))) ∙ run.late t le;
+      stands = stands_there;
+      raises = λ t. on_updated item s (Some e) (OnItem RaisesVersions) t (λ same. may.raises) (λ ne. run.raises t);
+    };
     lower = lower;
     upper = upper;
     risen = risen_there;

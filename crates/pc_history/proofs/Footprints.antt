@@ -4,12 +4,12 @@ use Rattle.std.proofs.Common.{if◌then◌else◌, refl, sym, ap, ◌∙◌, sub
 use Rattle.std.proofs.lemmas.Bool.{cases_eq}
 use Rattle.pc_model.specs.declared.cell.Field.{Field}
 use Rattle.pc_model.specs.declared.cell.Field.TheVariants.{Version}
-use Rattle.pc_model.specs.Cells.{Cells, field_number, IsOdd, IsEven, written, with_node}
+use Rattle.pc_model.specs.Cells.{Cells, field_number, IsEven, written}
 use Rattle.pc_model.specs.Exchanges.{Visited, Seen, Changed, FreshNode, Exchange, VisitsStand, ReadsStand}
 use Rattle.pc_model.specs.Exchanges.{ChangesStand, FreshStands, Stands, with_changes, with_fresh, applied}
-use Rattle.pc_model.proofs.Writes.{same_field, written-here, written-else, with_node-here, with_node-other, IsUnchanged}
+use Rattle.pc_model.proofs.Writes.{same_field, with_node-here, IsUnchanged}
 use Rattle.pc_model.proofs.Writes.{IsNotFresh, with_changes-else, with_changes-here, applied-else}
-use Rattle.pc_history.specs.Footprints.{IsAmong, IsOfWord, HasChange, LeavesWord, Writes, WritesMiss, AreOnce}
+use Rattle.pc_history.specs.Footprints.{IsAmong, IsOfWord, LeavesWord, Writes, WritesMiss, AreOnce}
 use Rattle.pc_history.specs.Footprints.{RaisesVersionOf, IsShaped, RaisesVersions}
 
 -- What stands, member by member

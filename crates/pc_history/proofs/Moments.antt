@@ -1,11 +1,11 @@
 -- The cells at the moments of a run: what stays between two moments, and that versions never fall.
-use Rattle.std.proofs.Common.{◌≡◌, ◌≢◌, ℕ, zero, suc, ◌<◌, ◌≤◌, ◌⊎◌, inl, inr, ⊎_elim, Option, Some, None, refl, sym}
+use Rattle.std.proofs.Common.{◌≡◌, ℕ, zero, suc, ◌<◌, ◌≤◌, ◌⊎◌, inl, inr, ⊎_elim, Option, Some, None, refl, sym}
 use Rattle.std.proofs.Common.{ap, ◌∙◌, subst, arith, le_refl}
 use Rattle.std.proofs.lemmas.Bool.{cases_eq}
 use Rattle.pc_model.specs.declared.cell.Field.{Field}
 use Rattle.pc_model.specs.declared.cell.Field.TheVariants.{Version}
 use Rattle.pc_model.specs.Cells.{Cells}
-use Rattle.pc_model.specs.Exchanges.{Exchange, Stands, applied}
+use Rattle.pc_model.specs.Exchanges.{Exchange, Stands}
 use Rattle.pc_history.specs.Footprints.{LeavesWord, RaisesVersions}
 use Rattle.pc_history.specs.Runs.{Items, after, cells_at, OnItem, IsRun}
 use Rattle.pc_history.proofs.Footprints.{applied_left}

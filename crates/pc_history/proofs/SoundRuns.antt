@@ -1,9 +1,9 @@
 -- Sound cells stay sound along a run whose exchanges fit.
-use Rattle.std.proofs.Common.{◌≡◌, ℕ, zero, suc, List, Option, Some, None}
+use Rattle.std.proofs.Common.{ℕ, zero, suc, List, Option, Some, None}
 use Rattle.pc_model.specs.Cells.{Cells}
 use Rattle.pc_model.specs.Exchanges.{Exchange, Stands}
 use Rattle.pc_model.specs.Forms.{Form, IsSound, Fits}
-use Rattle.pc_history.specs.Runs.{Items, after, cells_at, OnItem, IsRun}
+use Rattle.pc_history.specs.Runs.{after, cells_at, OnItem}
 use Rattle.pc_history.specs.RunLaws.{RunsStaySound}
 
 sound_after : (form : Form) (slots : ℕ) (o : Option Exchange) (c : Cells) → OnItem (λ x. Stands x c) o

@@ -1,16 +1,15 @@
 -- A worked run: three nodes are in use, one exchange stands at stamp 3, another enters at stamp 1, and a third
 -- one may not, since it writes what the first one changes.
-use Rattle.std.proofs.Common.{◌≡◌, ◌≢◌, ℕ, zero, suc, ◌<◌, ◌≤◌, inl, inr, ⊎_elim, List, [], ◌∷◌, Option, Some, None, refl, sym}
+use Rattle.std.proofs.Common.{◌≡◌, ◌≢◌, ℕ, inl, inr, ⊎_elim, [], ◌∷◌, Option, Some, None, refl, sym}
 use Rattle.std.proofs.Common.{ap, ◌∙◌, subst, arith}
-use Rattle.std.proofs.lemmas.Bool.{cases_eq}
 use Rattle.pc_model.specs.declared.cell.Field.{Field}
 use Rattle.pc_model.specs.declared.cell.Field.TheVariants.{Version, Value}
 use Rattle.pc_model.specs.Cells.{Cells}
-use Rattle.pc_model.specs.Exchanges.{Visited, Changed, FreshNode, Exchange, Stands}
-use Rattle.pc_history.specs.Footprints.{IsAmong, IsOfWord, LeavesWord, WritesMiss, RaisesVersionOf, IsShaped}
+use Rattle.pc_model.specs.Exchanges.{Visited, Changed, FreshNode, Exchange}
+use Rattle.pc_history.specs.Footprints.{IsAmong, LeavesWord, WritesMiss, RaisesVersionOf, IsShaped}
 use Rattle.pc_history.specs.Runs.{Items, cells_at, put_item, OnItem, IsRun, MayEnter, HasEntered}
-use Rattle.pc_history.specs.WorldRuns.{Stamped, run_of, IsListOf}
-use Rattle.pc_history.proofs.Updates.{on_updated, updated_other}
+use Rattle.pc_history.specs.WorldRuns.{run_of, IsListOf}
+use Rattle.pc_history.proofs.Updates.{on_updated}
 use Rattle.pc_history.proofs.Footprints.{raises_versions}
 use Rattle.pc_history.proofs.Entering.{has_entered}
 use Rattle.pc_history.proofs.WorldRuns.{runs_are_world_runs}
@@ -40,17 +39,17 @@ node_is n a among = ⊎_elim
 is_shaped : (n : ℕ) → IsShaped (set_value n)
 is_shaped n = record {
   once = (
-        (λ b among is. ⊎_elim
+    (λ b among is. ⊎_elim
         (λ e. let clash : ◌≡◌ {A = Field} Version Value = sym (ap (λ (x : Changed). x.field) e) ∙ is.1 in cc)
         (λ none'. none') among),
-        ((λ b among is. among), tt),
-      );
+    ((λ b among is. among), tt),
+  );
   raises = λ a among. subst (RaisesVersionOf (set_value n)) (sym (node_is n a among)) (record {
-        change = record { node = n; field = Version; old = 0; new = 2 };
-        among = inr (inl refl);
-        is_of = (refl, refl);
-        rises = inl (omega arith);
-      });
+    change = record { node = n; field = Version; old = 0; new = 2 };
+    among = inr (inl refl);
+    is_of = (refl, refl);
+    rises = inl (omega arith);
+  });
   not_fresh = λ a g among is. absurd (let x : ◌≡◌ {A = Option FreshNode} None (Some g) = is in cc);
 }
 

@@ -45,14 +45,14 @@ module _ (opening : Cells) (item : Items) (t : ℕ) (xs : List Stamped) (old : I
   -- the moment after a stamp at which nothing stands
   list_same : item t ≡ None → IsListOf opening item (suc t) (xs ++ [])
   list_same none' = subst (IsListOf opening item (suc t)) (sym (append-nil xs)) (record {
-        world = old.world;
-        leaves = old.leaves ∙ ap (λ (o : Option Exchange). after o (cells_at opening item t)) (sym none');
-        only = λ x i. (omega (arith, (old.only x i).0), (old.only x i).1);
-        all = λ s e lt is. ⊎_elim
-            (λ same. absurd (let some : None ≡ Some e = sym none' ∙ ap item (sym same) ∙ is in cc))
-            (λ ne. old.all s e (omega arith) is)
-            (cases_eq s t);
-      })
+    world = old.world;
+    leaves = old.leaves ∙ ap (λ (o : Option Exchange). after o (cells_at opening item t)) (sym none');
+    only = λ x i. (omega (arith, (old.only x i).0), (old.only x i).1);
+    all = λ s e lt is. ⊎_elim
+        (λ same. absurd (let some : None ≡ Some e = sym none' ∙ ap item (sym same) ∙ is in cc))
+        (λ ne. old.all s e (omega arith) is)
+        (cases_eq s t);
+  })
 
   list_more : (e : Exchange) → item t ≡ Some e → Stands e (cells_at opening item t)
       → IsListOf opening item (suc t) (xs ++ record { stamp = t; what = e } ∷ [])
@@ -71,9 +71,9 @@ module _ (opening : Cells) (item : Items) (t : ℕ) (xs : List Stamped) (old : I
     all = λ s d lt that. ⊎_elim
         (λ same. among_back (record { stamp = s; what = d }) xs (record { stamp = t; what = e } ∷ [])
         (inl (let equal : d ≡ e = injected d e (sym that ∙ ap item same ∙ is) in λ i. record {
-              stamp = same i;
-              what = equal i;
-            })))
+          stamp = same i;
+          what = equal i;
+        })))
         (λ ne. among_front (record { stamp = s; what = d }) xs (record { stamp = t; what = e } ∷ [])
         (old.all s d (omega arith) that))
         (cases_eq s t);

@@ -1,12 +1,10 @@
 -- A failed decision keeps the rule and every note: its references are worth their old numbers before and after.
-use Rattle.std.proofs.Common.{◌≡◌, ◌≢◌, ℕ, ◌<◌, ◌≤◌, ◌⊎◌, inl, inr, ⊎_elim, Some, None, refl, sym, ap, ◌∙◌, subst, arith, le_refl}
+use Rattle.std.proofs.Common.{◌≡◌, ℕ, inl, inr, ⊎_elim, None, refl, sym, ap, ◌∙◌, subst, le_refl}
 use Rattle.pc_model.specs.declared.cell.Field.TheVariants.{Version}
 use Rattle.pc_model.specs.Exchanges.{Exchange}
-use Rattle.pc_history.specs.Updates.{updated}
-use Rattle.pc_history.specs.Runs.{OnItem}
 use Rattle.pc_history.proofs.Moments.{versions_never_fall}
 use Rattle.pc_history.proofs.Updates.{updated_other, on_updated, from_updated}
-use Rattle.pc_protocol.specs.Histories.{Stage, committed, aborted, Cause, History, moments, cells_now, IsPublished}
+use Rattle.pc_protocol.specs.Histories.{Stage, committed, aborted, Cause, History, cells_now, IsPublished}
 use Rattle.pc_protocol.specs.Histories.{IsUndecided}
 use Rattle.pc_protocol.specs.Histories.{IsDecided, value_by}
 use Rattle.pc_protocol.specs.Rules.{IsTaken, IsCause, Rule}

@@ -1,23 +1,22 @@
 -- An exchange that takes effect keeps the rule and every note: it enters the run at its stamp, below what stands there
 -- with greater ones.
-use Rattle.std.proofs.Common.{◌≡◌, ◌≢◌, ℕ, ◌+◌, ◌<◌, ◌≤◌, ◌⊎◌, inl, inr, ⊎_elim, Option, Some, None, refl, sym, ap, ◌∙◌}
+use Rattle.std.proofs.Common.{◌≡◌, ◌≢◌, ℕ, ◌+◌, ◌<◌, ◌≤◌, inl, inr, ⊎_elim, Option, Some, None, refl, sym, ap, ◌∙◌}
 use Rattle.std.proofs.Common.{subst, arith, le_refl}
 use Rattle.std.proofs.lemmas.Bool.{cases_eq, cases_lt}
 use Rattle.pc_model.specs.declared.cell.Field.{Field}
 use Rattle.pc_model.specs.declared.cell.Field.TheVariants.{Version}
-use Rattle.pc_model.specs.Cells.{Cells, IsOdd}
-use Rattle.pc_model.specs.Exchanges.{Visited, Seen, Changed, FreshNode, Exchange, Stands, with_changes, with_fresh, applied}
+use Rattle.pc_model.specs.Cells.{IsOdd}
+use Rattle.pc_model.specs.Exchanges.{Visited, Seen, Changed, FreshNode, Exchange, Stands, with_fresh, applied}
 use Rattle.pc_model.proofs.Writes.{with_node-here, with_node-other}
-use Rattle.pc_history.specs.Updates.{updated}
 use Rattle.pc_history.specs.Footprints.{IsAmong, IsOfWord, LeavesWord, WritesMiss, IsShaped}
-use Rattle.pc_history.specs.Runs.{OnItem, IsRun, MayEnter, HasEntered}
+use Rattle.pc_history.specs.Runs.{OnItem, MayEnter, HasEntered}
 use Rattle.pc_history.proofs.Updates.{updated_here, updated_other, on_updated, from_updated}
 use Rattle.pc_history.proofs.Footprints.{applied_left, applied_change, leaves_there, leaves_node, visits_stand, reads_stand}
 use Rattle.pc_history.proofs.Footprints.{changes_stand, raises_versions, with_changes_at, with_changes_left}
 use Rattle.pc_history.proofs.Footprints.{with_changes_local}
 use Rattle.pc_history.proofs.Moments.{versions_never_fall}
 use Rattle.pc_history.proofs.Entering.{has_entered}
-use Rattle.pc_protocol.specs.Histories.{for_exchange, Cause, Stage, committed, aborted, History, moments, cells_now}
+use Rattle.pc_protocol.specs.Histories.{Cause, Stage, committed, aborted, History, moments, cells_now}
 use Rattle.pc_protocol.specs.Histories.{IsPublished}
 use Rattle.pc_protocol.specs.Histories.{IsUndecided, IsDecided, value_by, IsSpare, IsUsed, Drew}
 use Rattle.pc_protocol.specs.Seeing.{Covers, SawWord, Saw}
@@ -65,7 +64,7 @@ module _ (h : History) (rule : Rule h) (x s : ℕ) (can : CanCommit h x s) where
   own_version a among n is = (
     (λ i. moments h s (sym is.0 i) (sym is.1 i)) ∙ own_at h rule x s open' can.drew a among,
     (λ y t ne u drew lt. leaves_there (h.op y) a.node n a.field Version is.0 is.1
-    (other_leaves_own h rule x s open' can.drew y t ne u drew a among)),
+        (other_leaves_own h rule x s open' can.drew y t ne u drew a among)),
   )
 
   known_visit : (v : Visited) → IsAmong v e.visits → (moments h s v.node Version ≡ v.version) × Leaves v.node
@@ -107,7 +106,7 @@ module _ (h : History) (rule : Rule h) (x s : ℕ) (can : CanCommit h x s) where
     fresh = own_fresh_stands h rule x s open' can.drew;
   }
 
-  empty_there : h.item s ≡ None
+  pub empty_there : h.item s ≡ None
   empty_there = is_empty h rule x s open' can.drew
 
   may_enter : MayEnter h.opening h.clock h.item s e
@@ -119,10 +118,10 @@ module _ (h : History) (rule : Rule h) (x s : ℕ) (can : CanCommit h x s) where
     misses = λ u lt. rule.misses x s u open' can.drew lt;
   }
 
-  entered : HasEntered h.opening h.clock h.item s e
+  pub entered : HasEntered h.opening h.clock h.item s e
   entered = has_entered h.opening h.clock h.item rule.run s e may_enter
 
-  same_now : cells_now h' ≡ applied e (cells_now h)
+  pub same_now : cells_now h' ≡ applied e (cells_now h)
   same_now = entered.upper h.clock can.drew.0
 
   -- what another exchange with a smaller stamp writes misses this one
@@ -190,7 +189,7 @@ module _ (h : History) (rule : Rule h) (x s : ℕ) (can : CanCommit h x s) where
       (λ other. let old : Drew h.clock h.drawn_for t y × (h.item t ≡ Some (h.op y)) = rule.standing y t other.1 in (
         old.0,
         updated_other h.item s (Some e) t (λ same. none_not_some (h.op y)
-        (sym empty_there ∙ ap h.item (sym same) ∙ old.1)) ∙ old.1,
+            (sym empty_there ∙ ap h.item (sym same) ∙ old.1)) ∙ old.1,
       ))
       (from_updated h.stage x (committed s) (λ (st : Stage). st ≡ committed t) y is)
 
@@ -249,11 +248,11 @@ module _ (h : History) (rule : Rule h) (x s : ℕ) (can : CanCommit h x s) where
   unused_still : (n : ℕ) → (IsUsed (h'.slot n) → ⊥) → IsOdd (cells_now h' n Version)
   unused_still n not_used =
       let leaves : LeavesWord e n Version = record {
-            unchanged = λ a among is. not_used (using_used e.fresh h.slot n
-                (subst (λ (m : ℕ). IsUsed (h.slot m)) is.0
-                (own_refers h rule x s open' can.drew a among).in_use));
-            not_fresh = λ g is same. not_used (using_fresh e.fresh h.slot n g is same);
-          } in
+        unchanged = λ a among is. not_used (using_used e.fresh h.slot n
+            (subst (λ (m : ℕ). IsUsed (h.slot m)) is.0
+            (own_refers h rule x s open' can.drew a among).in_use));
+        not_fresh = λ g is same. not_used (using_fresh e.fresh h.slot n g is same);
+      } in
       let same : cells_now h' n Version ≡ cells_now h n Version =
       (λ i. same_now i n Version) ∙ applied_left e (cells_now h) n Version leaves in
       subst IsOdd (sym same) (rule.unused n (λ used. not_used (using_used e.fresh h.slot n used)))

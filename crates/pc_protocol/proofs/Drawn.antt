@@ -1,20 +1,18 @@
 -- An exchange that isn't decided, at a stamp that was drawn for it: nothing stands there yet, its words have their old
 -- numbers there and now, and no other exchange writes them.
-use Rattle.std.proofs.Common.{◌≡◌, ◌≢◌, ℕ, ◌+◌, ◌%◌, ◌<◌, ◌≤◌, ◌⊎◌, inl, inr, ⊎_elim, Option, Some, None, refl, sym, ap, ◌∙◌}
+use Rattle.std.proofs.Common.{◌≡◌, ◌≢◌, ℕ, ◌+◌, ◌%◌, ◌<◌, ◌≤◌, inl, inr, ⊎_elim, Option, Some, None, refl, sym, ap, ◌∙◌}
 use Rattle.std.proofs.Common.{subst, arith, le_of_lt}
 use Rattle.std.proofs.lemmas.Bool.{cases_eq}
 use Rattle.pc_model.specs.declared.cell.Field.{Field}
 use Rattle.pc_model.specs.declared.cell.Field.TheVariants.{Version}
-use Rattle.pc_model.specs.Cells.{Cells, IsOdd}
-use Rattle.pc_model.specs.Exchanges.{Visited, Seen, Changed, FreshNode, Exchange, FreshStands, Stands}
-use Rattle.pc_history.specs.Footprints.{IsAmong, IsOfWord, HasChange, LeavesWord, Writes, WritesMiss, RaisesVersionOf, IsShaped}
-use Rattle.pc_history.specs.Runs.{OnItem, IsRun, MayEnter}
-use Rattle.pc_history.proofs.Footprints.{misses_back, same_change, leaves_node, visits_stand, reads_stand, changes_stand}
-use Rattle.pc_history.proofs.Footprints.{raises_versions}
-use Rattle.pc_history.proofs.Moments.{word_stays, versions_never_fall}
-use Rattle.pc_protocol.specs.Histories.{for_exchange, Stage, committed, History, moments, cells_now, IsPublished}
-use Rattle.pc_protocol.specs.Histories.{IsUndecided, IsUsed, IsSpare, Drew}
-use Rattle.pc_protocol.specs.Seeing.{Visits, ChangesVersion, Covers, SawWord, Saw}
+use Rattle.pc_model.specs.Cells.{IsOdd}
+use Rattle.pc_model.specs.Exchanges.{Visited, Changed, FreshNode, Exchange, FreshStands}
+use Rattle.pc_history.specs.Footprints.{IsAmong, LeavesWord, Writes, WritesMiss, RaisesVersionOf, IsShaped}
+use Rattle.pc_history.specs.Runs.{OnItem}
+use Rattle.pc_history.proofs.Footprints.{misses_back, same_change}
+use Rattle.pc_history.proofs.Moments.{word_stays}
+use Rattle.pc_protocol.specs.Histories.{History, moments, cells_now}
+use Rattle.pc_protocol.specs.Histories.{IsUndecided, IsUsed, Drew}
 use Rattle.pc_protocol.specs.Rules.{IsTaken, Refers, IsReady, Rule}
 use Rattle.pc_protocol.specs.Notes.{Found, value, by, IsBy, IsBoundedBy, Looked}
 use Rattle.pc_protocol.specs.Steps.{IsSettled, HasPassed}

@@ -1,16 +1,14 @@
 -- A draw of a stamp keeps the rule and every note: no cells change, and the next stamp is above all that stands.
-use Rattle.std.proofs.Common.{◌≡◌, ◌≢◌, ℕ, suc, ◌<◌, ◌≤◌, ◌⊎◌, inl, inr, ⊎_elim, Option, Some, None, refl, sym, ap, ◌∙◌}
+use Rattle.std.proofs.Common.{◌≡◌, ℕ, suc, ◌<◌, ◌≤◌, ◌⊎◌, inl, inr, ⊎_elim, Option, None, refl, sym, ap, ◌∙◌}
 use Rattle.std.proofs.Common.{subst, arith, le_refl}
-use Rattle.pc_model.specs.declared.cell.Field.{Field}
 use Rattle.pc_model.specs.declared.cell.Field.TheVariants.{Version}
 use Rattle.pc_model.specs.Cells.{Cells, IsOdd}
 use Rattle.pc_model.specs.Exchanges.{Exchange}
-use Rattle.pc_history.specs.Updates.{updated}
 use Rattle.pc_history.specs.Footprints.{WritesMiss}
 use Rattle.pc_history.specs.Runs.{after, OnItem}
 use Rattle.pc_history.proofs.Moments.{versions_never_fall}
-use Rattle.pc_history.proofs.Updates.{updated_here, updated_other, on_updated, from_updated}
-use Rattle.pc_protocol.specs.Histories.{Drawer, for_exchange, for_read, History, moments, cells_now, Drew}
+use Rattle.pc_history.proofs.Updates.{updated_other, on_updated, from_updated}
+use Rattle.pc_protocol.specs.Histories.{Drawer, for_exchange, for_read, History, cells_now, Drew}
 use Rattle.pc_protocol.specs.Rules.{IsTaken, IsReady, Rule}
 use Rattle.pc_protocol.specs.Steps.{Keeps, draw, CanDraw}
 use Rattle.pc_protocol.proofs.Items.{on_item_none}
@@ -70,10 +68,10 @@ module _ (h : History) (rule : Rule h) (d : Drawer) (may : (x : ℕ) → d ≡ f
   rule_kept : Rule h'
   rule_kept = record {
     run = record {
-          late = λ t le. rule.run.late t (omega (arith, le));
-          stands = rule.run.stands;
-          raises = rule.run.raises;
-        };
+      late = λ t le. rule.run.late t (omega (arith, le));
+      stands = rule.run.stands;
+      raises = rule.run.raises;
+    };
     taken = taken_still;
     standing = λ x t is. (still_drawn t x (rule.standing x t is).0, (rule.standing x t is).1);
     past = λ x published. omega (arith, rule.past x published);

@@ -3,9 +3,11 @@ pub mod Commits
 pub mod Drawn
 pub mod Draws
 pub mod Items
+pub mod LinkSteps
 pub mod Loads
 pub mod Notes
 pub mod Openings
+pub mod Owned
 pub mod Protocol
 pub mod Publishing
 pub mod Reading

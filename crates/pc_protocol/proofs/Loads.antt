@@ -1,20 +1,19 @@
 -- What loads tell is true at once.
-use Rattle.std.proofs.Common.{◌≡◌, ◌≢◌, ℕ, suc, ◌<◌, ◌≤◌, ◌⊎◌, inl, inr, ⊎_elim, Option, Some, None, refl, sym, ap, ◌∙◌}
+use Rattle.std.proofs.Common.{◌≡◌, ℕ, ◌<◌, ◌≤◌, Option, Some, None, refl, sym, ap, ◌∙◌}
 use Rattle.std.proofs.Common.{subst, arith, le_refl, le_of_lt}
 use Rattle.pc_model.specs.declared.cell.Field.{Field}
 use Rattle.pc_model.specs.declared.cell.Field.TheVariants.{Version}
-use Rattle.pc_model.specs.Cells.{Cells, IsEven}
-use Rattle.pc_model.specs.Exchanges.{Visited, Seen, Changed, FreshNode, Exchange}
-use Rattle.pc_history.specs.Updates.{updated}
+use Rattle.pc_model.specs.Cells.{IsEven}
+use Rattle.pc_model.specs.Exchanges.{Changed, Exchange}
 use Rattle.pc_history.specs.Footprints.{IsAmong, IsOfWord, LeavesWord}
 use Rattle.pc_history.proofs.Updates.{updated_here}
 use Rattle.pc_history.proofs.Footprints.{same_change}
 use Rattle.pc_history.proofs.Moments.{late_cells, versions_never_fall}
-use Rattle.pc_protocol.specs.Histories.{for_exchange, Stage, aborted, locked, History, moments, cells_now, IsPublished}
-use Rattle.pc_protocol.specs.Histories.{IsUndecided, IsDecided, value_by, IsSpare, IsUsed, Drew}
-use Rattle.pc_protocol.specs.Seeing.{ChangesVersion, Covers, SawWord, Saw}
-use Rattle.pc_protocol.specs.Rules.{IsFrom, Refers, Rival, Rule}
-use Rattle.pc_protocol.specs.Notes.{Found, value, by, IsBy, IsBelowFound, Looked, visited, read_word, saw, looked, held}
+use Rattle.pc_protocol.specs.Histories.{for_exchange, Stage, locked, History, moments, cells_now}
+use Rattle.pc_protocol.specs.Histories.{IsUndecided, value_by, IsSpare, Drew}
+use Rattle.pc_protocol.specs.Seeing.{ChangesVersion, Covers}
+use Rattle.pc_protocol.specs.Rules.{IsFrom, Refers, Rule}
+use Rattle.pc_protocol.specs.Notes.{IsBy, IsBelowFound, visited, read_word, saw, looked, held}
 use Rattle.pc_protocol.specs.Notes.{rival, IsTrueNote}
 use Rattle.pc_protocol.specs.Telling.{found_in, IsNoted, LoadsTell}
 use Rattle.pc_protocol.proofs.Stages.{undecided_value, undecided_is_published, decided_not_undecided, used_not_spare}
@@ -37,7 +36,7 @@ module _ (h : History) (rule : Rule h) where
     (
       omega (arith, visit.1, falls b h.clock n visit.0),
       (λ t le version. (λ i. late_cells h.opening h.clock h.item rule.run t le i n f)
-      ∙ sym (rule.plain_is n f not_spare)),
+          ∙ sym (rule.plain_is n f not_spare)),
     ),
   )
 
@@ -169,13 +168,13 @@ module _ (h : History) (rule : Rule h) where
           cleared = uncleared_from x c (rule.uncleared n Version x is);
         };
     rival_undecided = λ n x c a le u among is_of. record {
-          exchange = x;
-          owned = refl;
-          published = undecided_is_published (h.stage x) u;
-          changes = record { change = a; among = among; is_of = is_of };
-          past = le;
-          cleared = uncleared_from x c (rule.running x (λ d. decided_not_undecided (h.stage x) d u));
-        };
+      exchange = x;
+      owned = refl;
+      published = undecided_is_published (h.stage x) u;
+      changes = record { change = a; among = among; is_of = is_of };
+      past = le;
+      cleared = uncleared_from x c (rule.running x (λ d. decided_not_undecided (h.stage x) d u));
+    };
     rival_told = λ n x pass is. (rule.told x (locked n pass) is).1;
     rival_before = rival_before_tells;
     held_version = held_version_tells;

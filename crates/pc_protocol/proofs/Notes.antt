@@ -1,18 +1,16 @@
 -- Notes stay true: at a step that makes the history grow, by cases on the note.
-use Rattle.std.proofs.Common.{◌≡◌, ◌≢◌, ℕ, ◌<◌, ◌≤◌, ◌⊎◌, inl, inr, ⊎_elim, Option, Some, None, refl, sym, ap, ◌∙◌}
+use Rattle.std.proofs.Common.{◌≡◌, ℕ, ◌<◌, ◌≤◌, ◌⊎◌, ⊎_elim, Some, sym, ◌∙◌}
 use Rattle.std.proofs.Common.{subst, arith}
 use Rattle.pc_model.specs.declared.cell.Field.{Field}
 use Rattle.pc_model.specs.declared.cell.Field.TheVariants.{Version}
-use Rattle.pc_model.specs.Cells.{Cells, IsEven}
-use Rattle.pc_model.specs.Exchanges.{Visited, Seen, Changed, Exchange}
-use Rattle.pc_history.specs.Footprints.{IsAmong, IsOfWord, HasChange, LeavesWord}
-use Rattle.pc_history.specs.Runs.{IsRun}
-use Rattle.pc_history.proofs.Moments.{versions_never_fall}
+use Rattle.pc_model.specs.Cells.{Cells}
+use Rattle.pc_model.specs.Exchanges.{Exchange}
+use Rattle.pc_history.specs.Footprints.{IsAmong, HasChange, LeavesWord}
 use Rattle.pc_protocol.specs.Histories.{Cause, withdrawn, changed, locked, Stage, History, moments, cells_now, IsPublished}
 use Rattle.pc_protocol.specs.Histories.{IsUndecided, IsDecided, value_by, IsUsed, Drew}
 use Rattle.pc_protocol.specs.Seeing.{Covers, SawWord, Saw}
 use Rattle.pc_protocol.specs.Rules.{IsFrom, Rival, IsCause}
-use Rattle.pc_protocol.specs.Notes.{Found, value, by, IsBy, IsBoundedBy, IsBelowFound, Looked, Note, visited, read_word}
+use Rattle.pc_protocol.specs.Notes.{Found, value, by, IsBoundedBy, IsBelowFound, Looked, Note, visited, read_word}
 use Rattle.pc_protocol.specs.Notes.{saw, looked, held, drew, verdict, in_use, rival, in_run}
 use Rattle.pc_protocol.specs.Notes.{IsTrueNote}
 
@@ -32,9 +30,9 @@ module _ (at at' : ℕ → Cells) (falls : NeverFalls at) (rose : Rose at at') w
   word_still b n v f x seen = (
     omega (arith, seen.0, as_great b n),
     (λ t le version. ⊎_elim
-    (λ more. absurd (omega (arith, more, version, seen.0, falls b t n le)))
-    (λ same. same f ∙ seen.1 t le (sym (same Version) ∙ version))
-    (rose t n)),
+        (λ more. absurd (omega (arith, more, version, seen.0, falls b t n le)))
+        (λ same. same f ∙ seen.1 t le (sym (same Version) ∙ version))
+        (rose t n)),
   )
 
   pub saw_still : (b : ℕ) (e : Exchange) → Saw at b e → Saw at' b e

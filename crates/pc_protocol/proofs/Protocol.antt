@@ -1,13 +1,12 @@
 -- The laws of the protocol, from the rule and its steps.
-use Rattle.std.proofs.Common.{◌≡◌, ℕ, ◌≤◌, inl, inr, ⊎_elim, List, [], Option, Some, None, refl, sym, ap, ◌∙◌, subst}
+use Rattle.std.proofs.Common.{◌≡◌, ℕ, inl, ⊎_elim, List, [], Some, None, sym, ◌∙◌, subst}
 use Rattle.std.proofs.lemmas.Bool.{cases_lt}
 use Rattle.pc_model.specs.Cells.{Cells}
-use Rattle.pc_model.specs.Exchanges.{Exchange, Stands, applied}
+use Rattle.pc_model.specs.Exchanges.{Exchange, Stands}
 use Rattle.pc_model.specs.Forms.{Form, IsSound, Fits}
-use Rattle.pc_history.specs.Runs.{OnItem}
 use Rattle.pc_history.proofs.SoundRuns.{runs_stay_sound}
 use Rattle.pc_history.proofs.WorldRuns.{runs_are_world_runs}
-use Rattle.pc_protocol.specs.Histories.{for_exchange, Stage, committed, History, moments, IsPublished}
+use Rattle.pc_protocol.specs.Histories.{committed, History, moments}
 use Rattle.pc_protocol.specs.Rules.{IsTaken, Rule}
 use Rattle.pc_protocol.specs.ProtocolLaws.{StepsKeepTheRule, StandsAtStamp, StandsInRun, RuleTells, CellsStaySound}
 use Rattle.pc_protocol.proofs.Stages.{none_not_some, committed_is_published}

@@ -1,16 +1,14 @@
 -- A publication keeps the rule and every note: no stamp was drawn for the exchange yet, and no word refers to it.
-use Rattle.std.proofs.Common.{◌≡◌, ◌≢◌, ℕ, ◌<◌, ◌≤◌, ◌⊎◌, inl, inr, ⊎_elim, Option, Some, None, refl, sym, ap, ◌∙◌, subst, arith}
+use Rattle.std.proofs.Common.{◌≡◌, ◌≢◌, ℕ, ◌<◌, ◌≤◌, inl, inr, ⊎_elim, Some, None, refl, sym, ap, ◌∙◌, subst}
 use Rattle.std.proofs.Common.{le_refl}
 use Rattle.std.proofs.lemmas.Bool.{cases_eq}
-use Rattle.pc_model.specs.declared.cell.Field.{Field}
 use Rattle.pc_model.specs.declared.cell.Field.TheVariants.{Version}
 use Rattle.pc_model.specs.Exchanges.{Changed, FreshNode, Exchange}
-use Rattle.pc_history.specs.Updates.{updated}
 use Rattle.pc_history.specs.Footprints.{IsAmong, WritesMiss, IsShaped}
 use Rattle.pc_history.specs.Runs.{OnItem}
 use Rattle.pc_history.proofs.Moments.{versions_never_fall}
 use Rattle.pc_history.proofs.Updates.{updated_here, updated_other, on_updated, from_updated}
-use Rattle.pc_protocol.specs.Histories.{Cause, Stage, absent, undecided, committed, aborted, History, moments, cells_now}
+use Rattle.pc_protocol.specs.Histories.{Cause, Stage, undecided, committed, aborted, History, moments, cells_now}
 use Rattle.pc_protocol.specs.Histories.{IsPublished}
 use Rattle.pc_protocol.specs.Histories.{IsUndecided, IsDecided, value_by, Drew}
 use Rattle.pc_protocol.specs.Seeing.{Saw}

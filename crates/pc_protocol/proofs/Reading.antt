@@ -1,21 +1,21 @@
 -- A read that takes effect keeps the rule and every note: it changes no cells, and the run has it at its stamp.
-use Rattle.std.proofs.Common.{◌≡◌, ◌≢◌, ℕ, ◌<◌, ◌≤◌, ◌⊎◌, inl, inr, ⊎_elim, List, [], Option, Some, None, refl, sym, ap, ◌∙◌}
+use Rattle.std.proofs.Common.{◌≡◌, ℕ, ◌<◌, ◌≤◌, inl, inr, ⊎_elim, [], Option, Some, None, refl, sym, ap, ◌∙◌}
 use Rattle.std.proofs.Common.{subst, arith, le_refl}
 use Rattle.std.proofs.lemmas.Bool.{cases_lt}
 use Rattle.pc_model.specs.declared.cell.Field.{Field}
 use Rattle.pc_model.specs.declared.cell.Field.TheVariants.{Version}
 use Rattle.pc_model.specs.Cells.{Cells, IsOdd}
-use Rattle.pc_model.specs.Exchanges.{Visited, Seen, Changed, FreshNode, Exchange, FreshStands, Stands, with_changes}
+use Rattle.pc_model.specs.Exchanges.{Visited, Changed, FreshNode, Exchange, FreshStands, Stands, with_changes}
 use Rattle.pc_model.specs.Exchanges.{with_fresh, applied}
 use Rattle.pc_history.specs.Footprints.{IsAmong, LeavesWord, WritesMiss, RaisesVersions}
-use Rattle.pc_history.specs.Runs.{OnItem, MayEnter, HasEntered}
+use Rattle.pc_history.specs.Runs.{OnItem, HasEntered}
 use Rattle.pc_history.proofs.Updates.{updated_other, on_updated}
-use Rattle.pc_history.proofs.Footprints.{leaves_there, leaves_node, visits_stand, reads_stand, changes_stand}
+use Rattle.pc_history.proofs.Footprints.{leaves_node, visits_stand, reads_stand, changes_stand}
 use Rattle.pc_history.proofs.Moments.{versions_never_fall}
 use Rattle.pc_history.proofs.Entering.{has_entered}
-use Rattle.pc_protocol.specs.Histories.{for_exchange, for_read, Stage, committed, History, moments, cells_now, IsPublished}
+use Rattle.pc_protocol.specs.Histories.{History, moments, cells_now}
 use Rattle.pc_protocol.specs.Histories.{IsUndecided, Drew}
-use Rattle.pc_protocol.specs.Seeing.{Visits, ChangesVersion, Covers, SawWord, Saw}
+use Rattle.pc_protocol.specs.Seeing.{Covers, SawWord, Saw}
 use Rattle.pc_protocol.specs.Rules.{IsTaken, IsReady, Rule}
 use Rattle.pc_protocol.specs.Steps.{Keeps, take_read, CanRead}
 use Rattle.pc_protocol.proofs.Stages.{none_not_some, undecided_is_published, aborted_is_published}
@@ -96,12 +96,12 @@ module _ (h : History) (rule : Rule h) (p s : ℕ) (e : Exchange) (can : CanRead
 
   entered : HasEntered h.opening h.clock h.item s e
   entered = has_entered h.opening h.clock h.item rule.run s e (record {
-        below = can.drew.0;
-        empty = can.empty;
-        stands = stands_at;
-        raises = raises;
-        misses = λ u lt. on_all (h.item u);
-      })
+    below = can.drew.0;
+    empty = can.empty;
+    stands = stands_at;
+    raises = raises;
+    misses = λ u lt. on_all (h.item u);
+  })
 
   -- no moment changes
   same_at : (t : ℕ) → moments h' t ≡ moments h t
@@ -113,7 +113,7 @@ module _ (h : History) (rule : Rule h) (p s : ℕ) (e : Exchange) (can : CanRead
   same_moments : moments h' ≡ moments h
   same_moments = λ i t. same_at t i
 
-  same_now : cells_now h' ≡ cells_now h
+  pub same_now : cells_now h' ≡ cells_now h
   same_now = same_at h.clock
 
   -- what an exchange with a smaller stamp writes misses the read
@@ -157,10 +157,10 @@ module _ (h : History) (rule : Rule h) (p s : ℕ) (e : Exchange) (can : CanRead
         (λ same. inl ((p, ap h.drawn_for same ∙ can.drew.1), can.no_changes, can.no_fresh))
         (λ ne. rule.taken t);
     standing = λ y t is. let old : Drew h.clock h.drawn_for t y × (h.item t ≡ Some (h.op y)) = rule.standing y t is in (
-          old.0,
-          updated_other h.item s (Some e) t (λ same. none_not_some (h.op y)
+      old.0,
+      updated_other h.item s (Some e) t (λ same. none_not_some (h.op y)
           (sym can.empty ∙ ap h.item (sym same) ∙ old.1)) ∙ old.1,
-        );
+    );
     past = rule.past;
     drawn = rule.drawn;
     held = rule.held;

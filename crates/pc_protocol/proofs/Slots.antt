@@ -1,8 +1,8 @@
 -- The slots once the fresh node of an exchange, if there is one, is in use.
-use Rattle.std.proofs.Common.{◌≡◌, ◌≢◌, ℕ, Option, Some, None, refl, sym, ap, ◌∙◌, subst}
+use Rattle.std.proofs.Common.{◌≡◌, ◌≢◌, ℕ, Option, Some, None, refl, sym, ap, ◌∙◌}
 use Rattle.pc_model.specs.Exchanges.{FreshNode}
 use Rattle.pc_history.proofs.Updates.{on_updated, updated_other}
-use Rattle.pc_protocol.specs.Histories.{Slot, used, IsSpare, IsUsed}
+use Rattle.pc_protocol.specs.Histories.{Slot, used, IsUsed}
 use Rattle.pc_protocol.specs.Steps.{using}
 use Rattle.pc_protocol.proofs.Stages.{some_same}
 

@@ -1,8 +1,8 @@
 -- Stages, slots and the numbers of exchanges: what excludes what.
-use Rattle.std.proofs.Common.{◌≡◌, ◌≢◌, ℕ, ◌⊎◌, inl, inr, Option, Some, None, refl, sym, ap, ◌∙◌, subst}
+use Rattle.std.proofs.Common.{◌≡◌, ℕ, Option, Some, None, refl, sym, ◌∙◌, subst}
 use Rattle.pc_protocol.specs.Histories.{Drawer, for_exchange, for_read, Cause, Stage, absent, undecided, committed, aborted}
 use Rattle.pc_protocol.specs.Histories.{Slot, free, spare, used, IsPublished, IsUndecided, IsDecided, value_by, IsFree}
-use Rattle.pc_protocol.specs.Histories.{IsSpare, IsUsed, IsForRead}
+use Rattle.pc_protocol.specs.Histories.{IsSpare, IsUsed}
 
 pub none_not_some : {A : Type 0} (x : A) → None ≡ Some x → ⊥
 none_not_some x e = cc
@@ -91,6 +91,11 @@ pub free_not_used : (s : Slot) → IsFree s → IsUsed s → ⊥
 free_not_used free a b = b
 free_not_used spare a b = a
 free_not_used used a b = a
+
+pub spare_not_free : (s : Slot) → IsSpare s → IsFree s → ⊥
+spare_not_free free a b = a
+spare_not_free spare a b = b
+spare_not_free used a b = a
 
 pub free_not_spare : (s : Slot) → IsFree s → IsSpare s → ⊥
 free_not_spare free a b = b

@@ -1,19 +1,17 @@
 -- Steps on one word or one slot keep the rule and every note: a reference is put or taken out, a word of a spare is
 -- filled, a free slot is taken as a spare, and the clock is read after clearing.
-use Rattle.std.proofs.Common.{◌≡◌, ◌≢◌, ℕ, ◌<◌, ◌≤◌, ◌⊎◌, inl, inr, ⊎_elim, Option, Some, None, refl, sym, ap, ◌∙◌, subst, arith}
+use Rattle.std.proofs.Common.{◌≡◌, ◌≢◌, ℕ, inr, ⊎_elim, Option, Some, None, refl, sym, ap, ◌∙◌, subst}
 use Rattle.std.proofs.Common.{le_refl}
 use Rattle.pc_model.specs.declared.cell.Field.{Field}
 use Rattle.pc_model.specs.declared.cell.Field.TheVariants.{Version}
-use Rattle.pc_model.specs.Exchanges.{Changed, FreshNode, Exchange}
 use Rattle.pc_history.specs.Updates.{updated, word_updated}
-use Rattle.pc_history.specs.Footprints.{IsAmong}
 use Rattle.pc_history.proofs.Moments.{versions_never_fall}
-use Rattle.pc_history.proofs.Updates.{word_updated_other, on_word_updated, from_word_updated, on_updated, from_updated}
-use Rattle.pc_protocol.specs.Histories.{Slot, spare, History, moments, cells_now, IsPublished, IsUndecided, IsFree}
-use Rattle.pc_protocol.specs.Histories.{IsDecided, IsSpare, IsUsed, Drew}
+use Rattle.pc_history.proofs.Updates.{word_updated_other, on_word_updated, from_word_updated, on_updated}
+use Rattle.pc_protocol.specs.Histories.{spare, History, cells_now, IsUndecided, IsFree}
+use Rattle.pc_protocol.specs.Histories.{IsDecided, IsSpare, IsUsed}
 use Rattle.pc_protocol.specs.Rules.{Refers, IsReady, IsFrom, Rule}
 use Rattle.pc_protocol.specs.Steps.{Keeps, refer, CanRefer, fill, CanFill, take_slot, clear, CanClear}
-use Rattle.pc_protocol.proofs.Stages.{same_option, undecided_is_published, spare_not_used, used_not_spare, free_not_used}
+use Rattle.pc_protocol.proofs.Stages.{used_not_spare, free_not_used}
 use Rattle.pc_protocol.proofs.Stages.{aborted_is_published}
 use Rattle.pc_protocol.proofs.Items.{refers_stays}
 use Rattle.pc_protocol.proofs.Notes.{Grows, cause_stays, notes_stay, looked_stays}
@@ -57,26 +55,26 @@ module _ (h : History) (rule : Rule h) (n : ℕ) (f : Field) (r : Option ℕ) (c
   pub refer_keeps : Keeps h (refer h n f r)
   refer_keeps = record {
     rule = record {
-          run = rule.run;
-          taken = rule.taken;
-          standing = rule.standing;
-          past = rule.past;
-          drawn = rule.drawn;
-          held = λ x t a u drew among. still_held x a.node a.field u (rule.held x t a u drew among);
-          misses = rule.misses;
-          plain_is = rule.plain_is;
-          refers = refers_still;
-          unused = rule.unused;
-          shaped = rule.shaped;
-          fresh = rule.fresh;
-          apart = rule.apart;
-          saw = rule.saw;
-          told = λ y w is. cause_stays h (refer h n f r) refer_grows y w (aborted_is_published (h.stage y) w is)
-              (rule.told y w is);
-          uncleared = λ m g y is. ⊎_elim (λ here. can.uncleared y here.2) (λ other. rule.uncleared m g y other.1)
-              (from_word_updated h.reference n f r (λ (o : Option ℕ). o ≡ Some y) m g is);
-          running = rule.running;
-        };
+      run = rule.run;
+      taken = rule.taken;
+      standing = rule.standing;
+      past = rule.past;
+      drawn = rule.drawn;
+      held = λ x t a u drew among. still_held x a.node a.field u (rule.held x t a u drew among);
+      misses = rule.misses;
+      plain_is = rule.plain_is;
+      refers = refers_still;
+      unused = rule.unused;
+      shaped = rule.shaped;
+      fresh = rule.fresh;
+      apart = rule.apart;
+      saw = rule.saw;
+      told = λ y w is. cause_stays h (refer h n f r) refer_grows y w (aborted_is_published (h.stage y) w is)
+          (rule.told y w is);
+      uncleared = λ m g y is. ⊎_elim (λ here. can.uncleared y here.2) (λ other. rule.uncleared m g y other.1)
+          (from_word_updated h.reference n f r (λ (o : Option ℕ). o ≡ Some y) m g is);
+      running = rule.running;
+    };
     notes = notes_stay h (refer h n f r) (versions_never_fall h.opening h.clock h.item rule.run) refer_grows;
   }
 
@@ -110,31 +108,31 @@ module _ (h : History) (rule : Rule h) (n : ℕ) (f : Field) (v : ℕ) (can : Ca
   pub fill_keeps : Keeps h (fill h n f v)
   fill_keeps = record {
     rule = record {
-          run = rule.run;
-          taken = rule.taken;
-          standing = rule.standing;
-          past = rule.past;
-          drawn = rule.drawn;
-          held = rule.held;
-          misses = rule.misses;
-          plain_is = λ m g not_spare. other_node m (not_here m not_spare) g ∙ rule.plain_is m g not_spare;
-          refers = λ m g x is. let old : Refers h.stage h.op h.plain h.slot m g x = rule.refers m g x is in
-              refers_stays h.stage h.stage h.op h.op h.plain (fill h n f v).plain h.slot h.slot m g x old.published refl
-              (λ old' new. refl) (other_node m (not_here m (used_not_spare (h.slot m) old.in_use)) g) (λ used. used) old;
-          unused = rule.unused;
-          shaped = rule.shaped;
-          fresh = λ x k u is. let old : IsReady (cells_now h) h.plain h.slot k = rule.fresh x k u is in record {
-                is_spare = old.is_spare;
-                version = old.version;
-                filled = λ g. other_node k.node (can.not_named x k u is) g ∙ old.filled g;
-              };
-          apart = rule.apart;
-          saw = rule.saw;
-          told = λ y w is. cause_stays h (fill h n f v) fill_grows y w (aborted_is_published (h.stage y) w is)
-              (rule.told y w is);
-          uncleared = rule.uncleared;
-          running = rule.running;
-        };
+      run = rule.run;
+      taken = rule.taken;
+      standing = rule.standing;
+      past = rule.past;
+      drawn = rule.drawn;
+      held = rule.held;
+      misses = rule.misses;
+      plain_is = λ m g not_spare. other_node m (not_here m not_spare) g ∙ rule.plain_is m g not_spare;
+      refers = λ m g x is. let old : Refers h.stage h.op h.plain h.slot m g x = rule.refers m g x is in
+          refers_stays h.stage h.stage h.op h.op h.plain (fill h n f v).plain h.slot h.slot m g x old.published refl
+          (λ old' new. refl) (other_node m (not_here m (used_not_spare (h.slot m) old.in_use)) g) (λ used. used) old;
+      unused = rule.unused;
+      shaped = rule.shaped;
+      fresh = λ x k u is. let old : IsReady (cells_now h) h.plain h.slot k = rule.fresh x k u is in record {
+        is_spare = old.is_spare;
+        version = old.version;
+        filled = λ g. other_node k.node (can.not_named x k u is) g ∙ old.filled g;
+      };
+      apart = rule.apart;
+      saw = rule.saw;
+      told = λ y w is. cause_stays h (fill h n f v) fill_grows y w (aborted_is_published (h.stage y) w is)
+          (rule.told y w is);
+      uncleared = rule.uncleared;
+      running = rule.running;
+    };
     notes = notes_stay h (fill h n f v) (versions_never_fall h.opening h.clock h.item rule.run) fill_grows;
   }
 
@@ -170,31 +168,31 @@ module _ (h : History) (rule : Rule h) (n : ℕ) (is_free : IsFree (h.slot n)) w
   pub take_slot_keeps : Keeps h (take_slot h n)
   take_slot_keeps = record {
     rule = record {
-          run = rule.run;
-          taken = rule.taken;
-          standing = rule.standing;
-          past = rule.past;
-          drawn = rule.drawn;
-          held = rule.held;
-          misses = rule.misses;
-          plain_is = λ m g not_spare. rule.plain_is m g (λ is. not_spare (still_spare m is));
-          refers = λ m g x is. let old : Refers h.stage h.op h.plain h.slot m g x = rule.refers m g x is in
-              refers_stays h.stage h.stage h.op h.op h.plain h.plain h.slot (take_slot h n).slot m g x old.published refl
-              (λ old' new. refl) refl (still_used m) old;
-          unused = λ m not_used. rule.unused m (λ used. not_used (still_used m used));
-          shaped = rule.shaped;
-          fresh = λ x k u is. let old : IsReady (cells_now h) h.plain h.slot k = rule.fresh x k u is in record {
-                is_spare = still_spare k.node old.is_spare;
-                version = old.version;
-                filled = old.filled;
-              };
-          apart = rule.apart;
-          saw = rule.saw;
-          told = λ y w is. cause_stays h (take_slot h n) take_slot_grows y w (aborted_is_published (h.stage y) w is)
-              (rule.told y w is);
-          uncleared = rule.uncleared;
-          running = rule.running;
-        };
+      run = rule.run;
+      taken = rule.taken;
+      standing = rule.standing;
+      past = rule.past;
+      drawn = rule.drawn;
+      held = rule.held;
+      misses = rule.misses;
+      plain_is = λ m g not_spare. rule.plain_is m g (λ is. not_spare (still_spare m is));
+      refers = λ m g x is. let old : Refers h.stage h.op h.plain h.slot m g x = rule.refers m g x is in
+          refers_stays h.stage h.stage h.op h.op h.plain h.plain h.slot (take_slot h n).slot m g x old.published refl
+          (λ old' new. refl) refl (still_used m) old;
+      unused = λ m not_used. rule.unused m (λ used. not_used (still_used m used));
+      shaped = rule.shaped;
+      fresh = λ x k u is. let old : IsReady (cells_now h) h.plain h.slot k = rule.fresh x k u is in record {
+        is_spare = still_spare k.node old.is_spare;
+        version = old.version;
+        filled = old.filled;
+      };
+      apart = rule.apart;
+      saw = rule.saw;
+      told = λ y w is. cause_stays h (take_slot h n) take_slot_grows y w (aborted_is_published (h.stage y) w is)
+          (rule.told y w is);
+      uncleared = rule.uncleared;
+      running = rule.running;
+    };
     notes = notes_stay h (take_slot h n) (versions_never_fall h.opening h.clock h.item rule.run) take_slot_grows;
   }
 
@@ -222,27 +220,27 @@ module _ (h : History) (rule : Rule h) (x : ℕ) (can : CanClear h x) where
   pub clear_keeps : Keeps h (clear h x)
   clear_keeps = record {
     rule = record {
-          run = rule.run;
-          taken = rule.taken;
-          standing = rule.standing;
-          past = rule.past;
-          drawn = rule.drawn;
-          held = rule.held;
-          misses = rule.misses;
-          plain_is = rule.plain_is;
-          refers = rule.refers;
-          unused = rule.unused;
-          shaped = rule.shaped;
-          fresh = rule.fresh;
-          apart = rule.apart;
-          saw = rule.saw;
-          told = λ y w is. cause_stays h (clear h x) clear_grows y w (aborted_is_published (h.stage y) w is)
-              (rule.told y w is);
-          uncleared = λ m g y is. on_updated h.cleared_at x (Some h.clock) (λ (o : Option ℕ). o ≡ None) y
-              (λ same. absurd (can.no_words m g (is ∙ ap Some same))) (λ ne. rule.uncleared m g y is);
-          running = λ y not_decided. on_updated h.cleared_at x (Some h.clock) (λ (o : Option ℕ). o ≡ None) y
-              (λ same. absurd (not_decided (subst (λ (z : ℕ). IsDecided (h.stage z)) (sym same) can.decided)))
-              (λ ne. rule.running y not_decided);
-        };
+      run = rule.run;
+      taken = rule.taken;
+      standing = rule.standing;
+      past = rule.past;
+      drawn = rule.drawn;
+      held = rule.held;
+      misses = rule.misses;
+      plain_is = rule.plain_is;
+      refers = rule.refers;
+      unused = rule.unused;
+      shaped = rule.shaped;
+      fresh = rule.fresh;
+      apart = rule.apart;
+      saw = rule.saw;
+      told = λ y w is. cause_stays h (clear h x) clear_grows y w (aborted_is_published (h.stage y) w is)
+          (rule.told y w is);
+      uncleared = λ m g y is. on_updated h.cleared_at x (Some h.clock) (λ (o : Option ℕ). o ≡ None) y
+          (λ same. absurd (can.no_words m g (is ∙ ap Some same))) (λ ne. rule.uncleared m g y is);
+      running = λ y not_decided. on_updated h.cleared_at x (Some h.clock) (λ (o : Option ℕ). o ≡ None) y
+          (λ same. absurd (not_decided (subst (λ (z : ℕ). IsDecided (h.stage z)) (sym same) can.decided)))
+          (λ ne. rule.running y not_decided);
+    };
     notes = notes_stay h (clear h x) (versions_never_fall h.opening h.clock h.item rule.run) clear_grows;
   }

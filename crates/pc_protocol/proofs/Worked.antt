@@ -1,24 +1,22 @@
 -- A worked course from the opening: a spare is taken and filled, an exchange that hangs it below the sentinel is
 -- published, puts its references, draws a stamp and takes effect; its references are taken out and it is cleared. An
 -- exchange that visited the sentinel before that can't take effect any more, and fails.
-use Rattle.std.proofs.Common.{◌≡◌, ◌≢◌, ℕ, ◌+◌, ◌%◌, ◌<◌, ◌≤◌, ◌⊎◌, inl, inr, ⊎_elim, List, [], ◌∷◌, Option, Some, None, refl, sym}
+use Rattle.std.proofs.Common.{◌≡◌, ℕ, ◌%◌, ◌≤◌, inl, inr, ⊎_elim, [], ◌∷◌, Option, Some, None, refl, sym}
 use Rattle.std.proofs.Common.{ap, ◌∙◌, subst, arith}
 use Rattle.pc_model.specs.declared.cell.Field.{Field}
 use Rattle.pc_model.specs.declared.cell.Field.TheVariants.{Version, Key, Value, Left, Right, Parent, Height, Spare}
-use Rattle.pc_model.specs.Cells.{Cells}
-use Rattle.pc_model.specs.Exchanges.{Visited, Seen, Changed, FreshNode, Exchange, Stands}
+use Rattle.pc_model.specs.Exchanges.{Visited, Seen, Changed, FreshNode, Exchange}
 use Rattle.pc_model.specs.Linked.{opening_cells}
-use Rattle.pc_history.specs.Footprints.{IsAmong, IsOfWord, RaisesVersionOf, IsShaped}
-use Rattle.pc_history.specs.WorldRuns.{Stamped, run_of, IsListOf}
+use Rattle.pc_history.specs.Footprints.{IsAmong, RaisesVersionOf, IsShaped}
+use Rattle.pc_history.specs.WorldRuns.{run_of, IsListOf}
 use Rattle.pc_history.proofs.Updates.{from_word_updated}
-use Rattle.pc_protocol.specs.Histories.{for_exchange, changed, committed, aborted, History, moments, cells_now, IsUndecided, IsUsed}
+use Rattle.pc_protocol.specs.Histories.{for_exchange, changed, History, moments, cells_now, IsUndecided, IsUsed}
 use Rattle.pc_protocol.specs.Seeing.{ChangesVersion, Covers, Saw, SawWord}
 use Rattle.pc_protocol.specs.Rules.{Refers, IsReady, Rule}
-use Rattle.pc_protocol.specs.Notes.{visited, IsTrueNote}
-use Rattle.pc_protocol.specs.Steps.{Keeps, draw, CanDraw, publish, CanPublish, commit, CanCommit, HasPassed, abort, CanAbort}
-use Rattle.pc_protocol.specs.Steps.{refer, CanRefer, fill, CanFill, take_slot, clear, CanClear}
+use Rattle.pc_protocol.specs.Steps.{draw, publish, commit, CanCommit, abort}
+use Rattle.pc_protocol.specs.Steps.{refer, CanRefer, fill, take_slot, clear}
 use Rattle.pc_protocol.specs.Openings.{opened, opening_slots}
-use Rattle.pc_protocol.specs.ProtocolLaws.{StandsAtStamp, RuleTells}
+use Rattle.pc_protocol.specs.ProtocolLaws.{StandsAtStamp}
 use Rattle.pc_protocol.proofs.Stages.{none_not_some, some_same}
 use Rattle.pc_protocol.proofs.Openings.{rule_holds_at_openings, nothing_yet}
 use Rattle.pc_protocol.proofs.Words.{refer_keeps, fill_keeps, take_slot_keeps, clear_keeps}
@@ -96,17 +94,17 @@ taken_rule = (take_slot_keeps at_opening opening_rule 2 tt).rule
 filled_rule : Rule filled
 filled_rule =
     let one : Rule (fill taken 2 Version 2) = (fill_keeps taken taken_rule 2 Version 2 (record {
-          is_spare = tt;
-          not_named = λ x g u is. absurd u;
-        })).rule in
+      is_spare = tt;
+      not_named = λ x g u is. absurd u;
+    })).rule in
     let two : Rule (fill (fill taken 2 Version 2) 2 Key 5) = (fill_keeps (fill taken 2 Version 2) one 2 Key 5 (record {
-          is_spare = tt;
-          not_named = λ x g u is. absurd u;
-        })).rule in
+      is_spare = tt;
+      not_named = λ x g u is. absurd u;
+    })).rule in
     (fill_keeps (fill (fill taken 2 Version 2) 2 Key 5) two 2 Value 50 (record {
-          is_spare = tt;
-          not_named = λ x g u is. absurd u;
-        })).rule
+      is_spare = tt;
+      not_named = λ x g u is. absurd u;
+    })).rule
 
 at_root : (a : Changed) → IsAmong a hang.changes → a.node ≡ 1
 at_root a among = ⊎_elim
@@ -119,17 +117,17 @@ is_leaf g is = some_same leaf g is
 hang_shaped : IsShaped hang
 hang_shaped = record {
   once = (
-        (λ b among is. ⊎_elim
+    (λ b among is. ⊎_elim
         (λ e. let clash : ◌≡◌ {A = Field} Left Version = sym (ap (λ (x : Changed). x.field) e) ∙ is.1 in cc)
         (λ none'. none') among),
-        ((λ b among is. among), tt),
-      );
+    ((λ b among is. among), tt),
+  );
   raises = λ a among. subst (RaisesVersionOf hang) (sym (at_root a among)) (record {
-        change = raise;
-        among = inl refl;
-        is_of = (refl, refl);
-        rises = inl (omega arith);
-      });
+    change = raise;
+    among = inl refl;
+    is_of = (refl, refl);
+    rises = inl (omega arith);
+  });
   not_fresh = λ a g among is same.
       let two : 2 ≡ g.node = ap (λ (x : FreshNode). x.node) (is_leaf g is) in
       absurd (omega (arith, two, same, at_root a among));
@@ -149,11 +147,11 @@ hang_saw = record {
       (sym e) (
         0,
         inl (record {
-              visit = record { node = 1; version = 0 };
-              among = inl refl;
-              node = refl;
-              version = refl;
-            }),
+          visit = record { node = 1; version = 0 };
+          among = inl refl;
+          node = refl;
+          version = refl;
+        }),
         (omega arith, (λ t le version. left_is_0 t)),
       ))
       (λ none'. absurd none') among;
@@ -171,30 +169,30 @@ leaf_filled Spare = refl
 
 published_rule : Rule published
 published_rule = (publish_keeps filled filled_rule 7 hang 1 (record {
-      is_new = refl;
-      past = omega arith;
-      shaped = hang_shaped;
-      saw = hang_saw;
-      fresh = λ g is. subst (IsReady (cells_now filled) filled.plain filled.slot) (is_leaf g is) (record {
-            is_spare = tt;
-            version = refl;
-            filled = leaf_filled;
-          });
-      apart = λ y g k u is_g is_k. absurd u;
-    })).rule
+  is_new = refl;
+  past = omega arith;
+  shaped = hang_shaped;
+  saw = hang_saw;
+  fresh = λ g is. subst (IsReady (cells_now filled) filled.plain filled.slot) (is_leaf g is) (record {
+    is_spare = tt;
+    version = refl;
+    filled = leaf_filled;
+  });
+  apart = λ y g k u is_g is_k. absurd u;
+})).rule
 
 refers_to : (a : Changed) → IsAmong a hang.changes → a.old ≡ published.plain a.node a.field → (x : ℕ)
     → Some 7 ≡ Some x
     → Refers published.stage published.op published.plain published.slot a.node a.field x
 refers_to a among value x is =
     subst (Refers published.stage published.op published.plain published.slot a.node a.field) (some_same 7 x is) (record {
-          published = tt;
-          change = a;
-          among = among;
-          is_of = (refl, refl);
-          value = value;
-          in_use = subst (λ (n : ℕ). IsUsed (published.slot n)) (sym (at_root a among)) tt;
-        })
+      published = tt;
+      change = a;
+      among = among;
+      is_of = (refl, refl);
+      value = value;
+      in_use = subst (λ (n : ℕ). IsUsed (published.slot n)) (sym (at_root a among)) tt;
+    })
 
 first_refers : CanRefer published 1 Version (Some 7)
 first_refers = record {
@@ -208,10 +206,10 @@ first_rule = (refer_keeps published published_rule 1 Version (Some 7) first_refe
 
 referred_rule : Rule referred
 referred_rule = (refer_keeps (refer published 1 Version (Some 7)) first_rule 1 Left (Some 7) (record {
-      refers = refers_to link (inr (inl refl)) refl;
-      uncleared = λ x is. refl;
-      stays = λ y is u. absurd (none_not_some y is);
-    })).rule
+  refers = refers_to link (inr (inl refl)) refl;
+  uncleared = λ x is. refl;
+  stays = λ y is u. absurd (none_not_some y is);
+})).rule
 
 held_by : (a : Changed) → IsAmong a hang.changes → referred.reference a.node a.field ≡ Some 7
 held_by a among = ⊎_elim
@@ -223,9 +221,9 @@ held_by a among = ⊎_elim
 
 drawn_rule : Rule drawn
 drawn_rule = (draw_keeps referred referred_rule 7 (record {
-      published = tt;
-      held = λ a u among. held_by a among;
-    })).rule
+  published = tt;
+  held = λ a u among. held_by a among;
+})).rule
 
 may_commit : CanCommit drawn 7 1
 may_commit = record {
@@ -233,11 +231,11 @@ may_commit = record {
   drew = (omega arith, refl);
   checked = λ v among. ⊎_elim
       (λ e. inl (subst (λ (w : Visited). ChangesVersion hang w.node w.version) (sym e) (record {
-            change = raise;
-            among = inl refl;
-            is_of = (refl, refl);
-            old = refl;
-          })))
+        change = raise;
+        among = inl refl;
+        is_of = (refl, refl);
+        old = refl;
+      })))
       (λ none'. absurd none') among;
 }
 
@@ -250,15 +248,15 @@ not_open y is u = subst (λ (z : ℕ). IsUndecided (done.stage z)) (sym (some_sa
 cleaned_rule : Rule cleaned
 cleaned_rule =
     let one : Rule (refer done 1 Version None) = (refer_keeps done done_rule 1 Version None (record {
-          refers = λ x is. absurd (none_not_some x is);
-          uncleared = λ x is. absurd (none_not_some x is);
-          stays = λ y is u. absurd (not_open y is u);
-        })).rule in
+      refers = λ x is. absurd (none_not_some x is);
+      uncleared = λ x is. absurd (none_not_some x is);
+      stays = λ y is u. absurd (not_open y is u);
+    })).rule in
     (refer_keeps (refer done 1 Version None) one 1 Left None (record {
-          refers = λ x is. absurd (none_not_some x is);
-          uncleared = λ x is. absurd (none_not_some x is);
-          stays = λ y is u. absurd (not_open y is u);
-        })).rule
+      refers = λ x is. absurd (none_not_some x is);
+      uncleared = λ x is. absurd (none_not_some x is);
+      stays = λ y is u. absurd (not_open y is u);
+    })).rule
 
 no_reference : (n : ℕ) (f : Field) → cleaned.reference n f ≡ Some 7 → ⊥
 no_reference n f is = ⊎_elim
@@ -313,24 +311,24 @@ late = draw (publish cleared 8 stale 2) (for_exchange 8)
 late_rule : Rule late
 late_rule =
     let one : Rule (publish cleared 8 stale 2) = (publish_keeps cleared cleared_rule 8 stale 2 (record {
-          is_new = refl;
-          past = omega arith;
-          shaped = record {
-                once = tt;
-                raises = λ a among. absurd among;
-                not_fresh = λ a g among is. absurd among;
-              };
-          saw = record {
-                visits = λ v among. ⊎_elim
-                    (λ e. subst (λ (w : Visited). (w.version % 2 ≡ 0)
-                    × (w.version ≤ moments cleared 2 w.node Version)) (sym e)
-                    (refl, omega arith))
-                    (λ none'. absurd none') among;
-                reads = λ r among. absurd among;
-              };
-          fresh = λ g is. absurd (none_not_some g is);
-          apart = λ y g k u is_g is_k. absurd (none_not_some g is_g);
-        })).rule in
+      is_new = refl;
+      past = omega arith;
+      shaped = record {
+        once = tt;
+        raises = λ a among. absurd among;
+        not_fresh = λ a g among is. absurd among;
+      };
+      saw = record {
+        visits = λ v among. ⊎_elim
+            (λ e. subst (λ (w : Visited). (w.version % 2 ≡ 0)
+            × (w.version ≤ moments cleared 2 w.node Version)) (sym e)
+            (refl, omega arith))
+            (λ none'. absurd none') among;
+        reads = λ r among. absurd among;
+      };
+      fresh = λ g is. absurd (none_not_some g is);
+      apart = λ y g k u is_g is_k. absurd (none_not_some g is_g);
+    })).rule in
     (draw_keeps (publish cleared 8 stale 2) one 8 (record { published = tt; held = λ a u among. absurd among })).rule
 
 abbrev old_visit : Visited
@@ -347,13 +345,13 @@ stale_may_not_commit can = ⊎_elim
 -- and it may fail, since the sentinel's version is above the one that it visited
 failed_rule : Rule (abort late 8 (changed 1))
 failed_rule = (abort_keeps late late_rule 8 (changed 1) (record {
-      undecided = tt;
-      cause = (
-            0,
-            inl (record { visit = old_visit; among = inl refl; node = refl; version = refl }),
-            omega arith,
-          );
-    })).rule
+  undecided = tt;
+  cause = (
+    0,
+    inl (record { visit = old_visit; among = inl refl; node = refl; version = refl }),
+    omega arith,
+  );
+})).rule
 
 -- a history whose run lacks what took effect isn't one of the rule
 lost_exchange_is_refused : Rule (record cleared { item = λ t. None }) → ⊥

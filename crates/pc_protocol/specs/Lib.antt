@@ -1,6 +1,8 @@
 pub mod Histories
+pub mod Links
 pub mod Notes
 pub mod Openings
+pub mod Owned
 pub mod ProtocolLaws
 pub mod Rules
 pub mod Seeing

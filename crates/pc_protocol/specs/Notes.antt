@@ -2,7 +2,6 @@
 use Rattle.std.specs.Prelude.{◌≡◌, ℕ, ◌<◌, ◌≤◌, Some}
 use Rattle.pc_model.specs.declared.cell.Field.{Field}
 use Rattle.pc_model.specs.declared.cell.Field.TheVariants.{Version}
-use Rattle.pc_model.specs.Cells.{Cells}
 use Rattle.pc_model.specs.Exchanges.{Changed, Exchange}
 use Rattle.pc_history.specs.Footprints.{IsAmong, IsOfWord, LeavesWord}
 use Rattle.pc_protocol.specs.Histories.{Stage, History, moments, IsPublished, IsUndecided, IsDecided, value_by, IsUsed, Drew}

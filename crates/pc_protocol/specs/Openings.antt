@@ -1,5 +1,5 @@
 -- The history that a board opens with, where no exchange is published: of its cells, its clock and its slots.
-use Rattle.std.specs.Prelude.{◌≡◌, ℕ, ◌==◌, if◌then◌else◌, [], Option, None}
+use Rattle.std.specs.Prelude.{ℕ, ◌==◌, if◌then◌else◌, [], None}
 use Rattle.pc_model.specs.Cells.{Cells}
 use Rattle.pc_model.specs.Exchanges.{Exchange}
 use Rattle.pc_protocol.specs.Histories.{for_read, absent, Slot, free, used, History}

@@ -7,8 +7,8 @@ use Rattle.pc_model.specs.Exchanges.{Exchange, Stands}
 use Rattle.pc_model.specs.Forms.{Form, IsSound, Fits}
 use Rattle.pc_model.specs.Linked.{opening_cells}
 use Rattle.pc_history.specs.WorldRuns.{run_of, IsListOf}
-use Rattle.pc_protocol.specs.Histories.{for_exchange, for_read, Cause, Stage, committed, aborted, Slot, History, moments}
-use Rattle.pc_protocol.specs.Histories.{cells_now, IsPublished, IsFree, IsUsed}
+use Rattle.pc_protocol.specs.Histories.{for_exchange, for_read, Cause, committed, aborted, Slot, History, moments}
+use Rattle.pc_protocol.specs.Histories.{IsPublished, IsFree, IsUsed}
 use Rattle.pc_protocol.specs.Rules.{IsCause, Rule}
 use Rattle.pc_protocol.specs.Steps.{Keeps, draw, CanDraw, publish, CanPublish, commit, CanCommit, abort, CanAbort}
 use Rattle.pc_protocol.specs.Steps.{take_read, CanRead, refer, CanRefer, fill, CanFill, take_slot, clear, CanClear}

@@ -6,9 +6,9 @@ use Rattle.pc_model.specs.Exchanges.{Visited, Changed, FreshNode, Exchange, with
 use Rattle.pc_history.specs.Updates.{updated, word_updated}
 use Rattle.pc_history.specs.Footprints.{IsAmong, IsOfWord, IsShaped}
 use Rattle.pc_history.specs.Runs.{put_item}
-use Rattle.pc_protocol.specs.Histories.{Drawer, for_exchange, for_read, Cause, Stage, absent, undecided, committed, aborted}
-use Rattle.pc_protocol.specs.Histories.{Slot, free, spare, used, History, moments, cells_now, IsPublished, IsUndecided}
-use Rattle.pc_protocol.specs.Histories.{IsDecided, value_by, IsFree, IsSpare, Drew}
+use Rattle.pc_protocol.specs.Histories.{Drawer, for_read, Cause, Stage, absent, undecided, committed, aborted}
+use Rattle.pc_protocol.specs.Histories.{Slot, spare, used, History, moments, cells_now, IsPublished, IsUndecided}
+use Rattle.pc_protocol.specs.Histories.{IsDecided, value_by, IsSpare, Drew}
 use Rattle.pc_protocol.specs.Seeing.{ChangesVersion, Saw}
 use Rattle.pc_protocol.specs.Rules.{Refers, IsReady, IsCause, Rule}
 use Rattle.pc_protocol.specs.Notes.{Found, value, by, Looked, Note, IsTrueNote}

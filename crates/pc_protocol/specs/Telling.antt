@@ -5,10 +5,9 @@ use Rattle.pc_model.specs.declared.cell.Field.TheVariants.{Version}
 use Rattle.pc_model.specs.Cells.{IsEven}
 use Rattle.pc_model.specs.Exchanges.{Visited, Seen, Changed, Exchange}
 use Rattle.pc_history.specs.Footprints.{IsAmong, IsOfWord}
-use Rattle.pc_protocol.specs.Histories.{for_exchange, Stage, aborted, locked, History, cells_now, IsPublished, IsUndecided}
+use Rattle.pc_protocol.specs.Histories.{for_exchange, aborted, locked, History, IsUndecided}
 use Rattle.pc_protocol.specs.Histories.{IsDecided, IsSpare}
 use Rattle.pc_protocol.specs.Seeing.{ChangesVersion, Covers}
-use Rattle.pc_protocol.specs.Rules.{Rule}
 use Rattle.pc_protocol.specs.Notes.{Found, value, by, visited, read_word, saw, looked, held, drew, verdict, rival, IsTrueNote}
 use Rattle.pc_protocol.specs.Steps.{draw}
 

@@ -1,7 +1,12 @@
 //! The laws of the protocol, each on a function with no code.
 ghost use Rattle.pc_protocol.specs.Histories.{History};
+ghost use Rattle.pc_protocol.specs.Links.{LinksLaw};
+ghost use Rattle.pc_protocol.specs.Owned.{StepsKeepOwned};
 ghost use Rattle.pc_protocol.specs.ProtocolLaws.{
-    CellsStaySound, RuleHoldsAtOpenings, RuleTells, StepsKeepTheRule,
+  CellsStaySound,
+  RuleHoldsAtOpenings,
+  RuleTells,
+  StepsKeepTheRule,
 };
 ghost use Rattle.pc_protocol.specs.Rules.{Rule};
 
@@ -29,4 +34,16 @@ pub fn what_the_rule_tells()
 /// Where the rule holds, and each published exchange fits a shape, the cells are sound in it at every moment.
 pub fn cells_stay_sound<H: Shape>()
     ensures { CellsStaySound H.form }
+{}
+
+/// What a pass has for itself stays at every step but its own: a stamp that it drew for a read that didn't take effect,
+/// and a spare with the version of its slot and what was filled into its words.
+pub fn steps_keep_what_is_owned()
+    ensures { (h : History) → Rule h → StepsKeepOwned h }
+{}
+
+/// Where the cells are linked, a link of a node in use names a node in use, or is 0, as long as no slot is freed: an
+/// exchange that marks a node changes no other word of it. Each step keeps what this rests on.
+pub fn links_name_nodes_in_use()
+    ensures { LinksLaw }
 {}

@@ -10,4 +10,7 @@
 
 mod laws;
 
-pub use laws::{cells_stay_sound, steps_keep_the_rule, the_rule_holds_at_openings, what_the_rule_tells};
+pub use laws::{
+    cells_stay_sound, links_name_nodes_in_use, steps_keep_the_rule, steps_keep_what_is_owned,
+    the_rule_holds_at_openings, what_the_rule_tells,
+};
