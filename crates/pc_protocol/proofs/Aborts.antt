@@ -79,6 +79,7 @@ module _ (h : History) (rule : Rule h) (x : ℕ) (cause : Cause) (can : CanAbort
     times = λ y p. refl;
     cleared = λ y c le is. is;
     now = λ n. le_refl (cells_now h n Version);
+    clears = λ y is. is;
     items = λ t d is. is;
   }
 

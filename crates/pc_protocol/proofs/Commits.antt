@@ -353,6 +353,7 @@ module _ (h : History) (rule : Rule h) (x s : ℕ) (can : CanCommit h x s) where
     times = λ y p. refl;
     cleared = λ y c le is. is;
     now = λ n. as_great (moments h) (moments h') never_falls entered.risen h.clock n;
+    clears = λ y is. is;
     items = λ t d is. updated_other h.item s (Some e) t (λ same. none_not_some d
         (sym empty_there ∙ ap h.item (sym same) ∙ is)) ∙ is;
   }

@@ -62,6 +62,7 @@ module _ (h : History) (rule : Rule h) (d : Drawer) (may : (x : ℕ) → d ≡ f
     cleared = λ x c le is. is;
     now = λ n. let same : cells_now h' n Version ≡ cells_now h n Version = (λ i. same_now i n Version) in
         omega (arith, same);
+    clears = λ y is. is;
     items = λ t d is. is;
   }
 

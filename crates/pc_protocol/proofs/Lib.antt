@@ -11,6 +11,7 @@ pub mod Owned
 pub mod Protocol
 pub mod Publishing
 pub mod Reading
+pub mod Serving
 pub mod Slots
 pub mod Stages
 pub mod Words

@@ -121,7 +121,7 @@ module _ (h : History) (rule : Rule h) where
     },
   )
 
-  rival_before_tells : (n pass b c : ℕ) → b ≤ c → IsTrueNote h (rival pass n c) → IsTrueNote h (rival pass n b)
+  pub rival_before_tells : (n pass b c : ℕ) → b ≤ c → IsTrueNote h (rival pass n c) → IsTrueNote h (rival pass n b)
   rival_before_tells n pass b c le r = record {
     exchange = r.exchange;
     owned = r.owned;

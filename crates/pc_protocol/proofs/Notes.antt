@@ -11,7 +11,7 @@ use Rattle.pc_protocol.specs.Histories.{IsUndecided, IsDecided, value_by, IsUsed
 use Rattle.pc_protocol.specs.Seeing.{Covers, SawWord, Saw}
 use Rattle.pc_protocol.specs.Rules.{IsFrom, Rival, IsCause}
 use Rattle.pc_protocol.specs.Notes.{Found, value, by, IsBoundedBy, IsBelowFound, Looked, Note, visited, read_word}
-use Rattle.pc_protocol.specs.Notes.{saw, looked, held, drew, verdict, in_use, rival, in_run}
+use Rattle.pc_protocol.specs.Notes.{saw, looked, held, drew, verdict, in_use, rival, in_run, cleared, IsCleared}
 use Rattle.pc_protocol.specs.Notes.{IsTrueNote}
 
 -- at each moment a node's version rose, or the node is as before
@@ -74,6 +74,7 @@ pub record Grows (h h' : History) : Type 0 where
   pub times : (x : ℕ) → IsPublished (h.stage x) → h'.published_at x ≡ h.published_at x
   pub cleared : (x c : ℕ) → c ≤ h.clock → IsFrom c (h.cleared_at x) → IsFrom c (h'.cleared_at x)
   pub now : (n : ℕ) → cells_now h n Version ≤ cells_now h' n Version
+  pub clears : (x : ℕ) → IsCleared (h.cleared_at x) → IsCleared (h'.cleared_at x)
   pub items : (s : ℕ) (e : Exchange) → h.item s ≡ Some e → h'.item s ≡ Some e
 
 -- a rival stays one, and so does a cause
@@ -132,6 +133,7 @@ notes_stay h h' falls grows (verdict x st) true' = (
 notes_stay h h' falls grows (in_use n) true' = grows.in_use n true'
 notes_stay h h' falls grows (rival pass n c) true' = rival_stays h h' grows pass n c true'
 notes_stay h h' falls grows (in_run s e) true' = grows.items s e true'
+notes_stay h h' falls grows (cleared x) true' = grows.clears x true'
 
 -- Looks at a step that leaves the run as it is, and the worth of each reference
 

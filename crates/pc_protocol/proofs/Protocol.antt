@@ -18,6 +18,8 @@ use Rattle.pc_protocol.proofs.Aborts.{abort_keeps}
 use Rattle.pc_protocol.proofs.Reading.{read_keeps, changes_nothing}
 use Rattle.pc_protocol.proofs.Words.{refer_keeps, fill_keeps, take_slot_keeps, clear_keeps}
 use Rattle.pc_protocol.proofs.Loads.{loads_tell}
+use Rattle.pc_protocol.proofs.Serving.{notes_serve}
+use Rattle.pc_protocol.specs.Notes.{IsCleared}
 
 pub steps_keep_the_rule : (h : History) → Rule h → StepsKeepTheRule h
 steps_keep_the_rule h rule = record {
@@ -55,8 +57,10 @@ rule_tells h rule = record {
   world = runs_are_world_runs h.opening h.clock h.item rule.run;
   committed_stands = committed_stands_at h rule;
   item_stands = item_stands_at h rule;
+  cleared_words = λ x n f is_cleared is. subst IsCleared (rule.uncleared n f x is) is_cleared;
   cause = rule.told;
   loads = loads_tell h rule;
+  notes = notes_serve h rule;
 }
 
 -- a read fits any form, and charges nothing

@@ -146,6 +146,7 @@ module _ (h : History) (rule : Rule h) (x : ℕ) (e : Exchange) (b : ℕ) (can :
     times = λ y p. time_other y (is_other y p);
     cleared = λ y c le is. is;
     now = λ n. le_refl (cells_now h n Version);
+    clears = λ y is. is;
     items = λ t d is. is;
   }
 

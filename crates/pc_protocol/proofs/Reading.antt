@@ -146,6 +146,7 @@ module _ (h : History) (rule : Rule h) (p s : ℕ) (e : Exchange) (can : CanRead
     cleared = λ x c le is. is;
     now = λ n. let same : cells_now h' n Version ≡ cells_now h n Version = (λ i. same_now i n Version) in
         omega (arith, same);
+    clears = λ y is. is;
     items = λ t d is. updated_other h.item s (Some e) t (λ same. none_not_some d
         (sym can.empty ∙ ap h.item (sym same) ∙ is)) ∙ is;
   }

@@ -10,6 +10,7 @@ use Rattle.pc_history.proofs.Updates.{word_updated_other, on_word_updated, from_
 use Rattle.pc_protocol.specs.Histories.{spare, History, cells_now, IsUndecided, IsFree}
 use Rattle.pc_protocol.specs.Histories.{IsDecided, IsSpare, IsUsed}
 use Rattle.pc_protocol.specs.Rules.{Refers, IsReady, IsFrom, Rule}
+use Rattle.pc_protocol.specs.Notes.{IsCleared}
 use Rattle.pc_protocol.specs.Steps.{Keeps, refer, CanRefer, fill, CanFill, take_slot, clear, CanClear}
 use Rattle.pc_protocol.proofs.Stages.{used_not_spare, free_not_used}
 use Rattle.pc_protocol.proofs.Stages.{aborted_is_published}
@@ -49,6 +50,7 @@ module _ (h : History) (rule : Rule h) (n : ℕ) (f : Field) (r : Option ℕ) (c
     times = λ y p. refl;
     cleared = λ y c le is. is;
     now = λ m. le_refl (cells_now h m Version);
+    clears = λ y is. is;
     items = λ t d is. is;
   }
 
@@ -102,6 +104,7 @@ module _ (h : History) (rule : Rule h) (n : ℕ) (f : Field) (v : ℕ) (can : Ca
     times = λ y p. refl;
     cleared = λ y c le is. is;
     now = λ m. le_refl (cells_now h m Version);
+    clears = λ y is. is;
     items = λ t d is. is;
   }
 
@@ -162,6 +165,7 @@ module _ (h : History) (rule : Rule h) (n : ℕ) (is_free : IsFree (h.slot n)) w
     times = λ y p. refl;
     cleared = λ y c le is. is;
     now = λ m. le_refl (cells_now h m Version);
+    clears = λ y is. is;
     items = λ t d is. is;
   }
 
@@ -214,6 +218,7 @@ module _ (h : History) (rule : Rule h) (x : ℕ) (can : CanClear h x) where
     times = λ y p. refl;
     cleared = λ y c le is. on_updated h.cleared_at x (Some h.clock) (IsFrom c) y (λ same. le) (λ ne. is);
     now = λ m. le_refl (cells_now h m Version);
+    clears = λ y is. on_updated h.cleared_at x (Some h.clock) IsCleared y (λ same. tt) (λ ne. is);
     items = λ t d is. is;
   }
 

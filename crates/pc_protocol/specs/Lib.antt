@@ -6,5 +6,6 @@ pub mod Owned
 pub mod ProtocolLaws
 pub mod Rules
 pub mod Seeing
+pub mod Serving
 pub mod Steps
 pub mod Telling

@@ -1,5 +1,5 @@
 -- What a pass may note, and when it is true. A note that is true stays so at every step.
-use Rattle.std.specs.Prelude.{◌≡◌, ℕ, ◌<◌, ◌≤◌, Some}
+use Rattle.std.specs.Prelude.{◌≡◌, ℕ, ◌<◌, ◌≤◌, Option, Some, None}
 use Rattle.pc_model.specs.declared.cell.Field.{Field}
 use Rattle.pc_model.specs.declared.cell.Field.TheVariants.{Version}
 use Rattle.pc_model.specs.Exchanges.{Changed, Exchange}
@@ -37,6 +37,11 @@ pub record Looked (h : History) (s n : ℕ) (f : Found) : Type 0 where
       → LeavesWord (h.op y) n Version
   pub below : IsBelowFound h.stage h.op n (moments h s n Version) f
 
+-- the clock after clearing was read
+abbrev pub IsCleared : Option ℕ → Type 0
+IsCleared None = ⊥
+IsCleared (Some c) = Unit {0}
+
 pub data Note : Type 0 where
   -- the node had at least this version at a moment
   visited : ℕ → ℕ → ℕ → Note
@@ -58,6 +63,8 @@ pub data Note : Type 0 where
   rival : ℕ → ℕ → ℕ → Note
   -- this exchange or read stands in the run at this stamp
   in_run : ℕ → Exchange → Note
+  -- the clock was read after the exchange was cleared
+  cleared : ℕ → Note
 
 abbrev pub IsTrueNote : History → Note → Type 0
 IsTrueNote h (visited n v b) = (b ≤ h.clock) × (v ≤ moments h b n Version)
@@ -70,3 +77,4 @@ IsTrueNote h (verdict x st) = (h.stage x ≡ st) × IsDecided st
 IsTrueNote h (in_use n) = IsUsed (h.slot n)
 IsTrueNote h (rival pass n c) = Rival h pass n c
 IsTrueNote h (in_run s e) = h.item s ≡ Some e
+IsTrueNote h (cleared x) = IsCleared (h.cleared_at x)

@@ -12,7 +12,9 @@ use Rattle.pc_protocol.specs.Histories.{IsPublished, IsFree, IsUsed}
 use Rattle.pc_protocol.specs.Rules.{IsCause, Rule}
 use Rattle.pc_protocol.specs.Steps.{Keeps, draw, CanDraw, publish, CanPublish, commit, CanCommit, abort, CanAbort}
 use Rattle.pc_protocol.specs.Steps.{take_read, CanRead, refer, CanRefer, fill, CanFill, take_slot, clear, CanClear}
+use Rattle.pc_protocol.specs.Notes.{IsCleared}
 use Rattle.pc_protocol.specs.Telling.{LoadsTell}
+use Rattle.pc_protocol.specs.Serving.{NotesServe}
 use Rattle.pc_protocol.specs.Openings.{opened, opening_slots}
 
 -- the rule holds where a board opens, also of the opening cells at any even version
@@ -53,9 +55,12 @@ pub record RuleTells (h : History) : Type 0 where
   pub world : (t : ℕ) → IsListOf h.opening h.item t (run_of h.item t)
   pub committed_stands : (x s : ℕ) → h.stage x ≡ committed s → StandsAtStamp h x s
   pub item_stands : (s : ℕ) (e : Exchange) → h.item s ≡ Some e → StandsInRun h s e
+  -- once an exchange was cleared, no word has its reference
+  pub cleared_words : (x n : ℕ) (f : Field) → IsCleared (h.cleared_at x) → h.reference n f ≡ Some x → ⊥
   -- a failed exchange has its cause
   pub cause : (x : ℕ) (w : Cause) → h.stage x ≡ aborted w → IsCause h x w
   pub loads : LoadsTell h
+  pub notes : NotesServe h
 
 -- sound cells stay sound at every moment, where each published exchange fits
 abbrev pub CellsStaySound : Form → Type 0
