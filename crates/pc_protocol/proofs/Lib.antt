@@ -16,3 +16,4 @@ pub mod Slots
 pub mod Stages
 pub mod Words
 pub mod Worked
+pub mod WorkedPair

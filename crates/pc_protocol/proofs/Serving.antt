@@ -1,15 +1,11 @@
 -- With its notes a pass may make each step.
-use Rattle.std.proofs.Common.{◌≡◌, ◌≢◌, ℕ, ◌<◌, ◌≤◌, ◌⊎◌, inl, inr, ⊎_elim, [], Some, None, refl, sym, ap, ◌∙◌, subst, arith}
-use Rattle.pc_model.specs.declared.cell.Field.{Field}
-use Rattle.pc_model.specs.declared.cell.Field.TheVariants.{Version}
-use Rattle.pc_model.specs.Exchanges.{Visited, Changed, FreshNode, Exchange}
-use Rattle.pc_history.specs.Footprints.{IsAmong, IsOfWord}
+use Rattle.std.proofs.Common.{ℕ, ◌≤◌, inl, inr, ⊎_elim, sym, subst, arith}
+use Rattle.pc_model.specs.Exchanges.{Visited}
 use Rattle.pc_history.proofs.Moments.{versions_never_fall}
-use Rattle.pc_protocol.specs.Histories.{Stage, changed, locked, History, moments, cells_now, IsUndecided, IsDecided, value_by}
-use Rattle.pc_protocol.specs.Seeing.{ChangesVersion, Covers}
+use Rattle.pc_protocol.specs.Histories.{Stage, History, IsDecided, value_by}
 use Rattle.pc_protocol.specs.Rules.{Rule}
-use Rattle.pc_protocol.specs.Notes.{Found, value, by, Looked, visited, drew, verdict, rival, IsTrueNote}
-use Rattle.pc_protocol.specs.Steps.{IsSettled, HasPassed, CanCommit, CanAbort}
+use Rattle.pc_protocol.specs.Notes.{Found, value, by}
+use Rattle.pc_protocol.specs.Steps.{IsSettled, HasPassed}
 use Rattle.pc_protocol.specs.Serving.{IsSettledByNotes, HasPassedByNotes, NotesServe}
 use Rattle.pc_protocol.proofs.Stages.{decided_not_undecided}
 use Rattle.pc_protocol.proofs.Loads.{rival_before_tells}
@@ -33,38 +29,38 @@ module _ (h : History) (rule : Rule h) where
   notes_serve = record {
     draw = λ x published held. record { published = published; held = λ a u among. (held a among).1 u };
     publish = λ x e b is_new shaped saw fresh apart. record {
-          is_new = is_new;
-          past = saw.0;
-          shaped = shaped;
-          saw = saw.1;
-          fresh = fresh;
-          apart = apart;
-        };
+      is_new = is_new;
+      past = saw.0;
+      shaped = shaped;
+      saw = saw.1;
+      fresh = fresh;
+      apart = apart;
+    };
     commit = λ x s u drew checked. record {
-          undecided = u;
-          drew = drew;
-          checked = λ v among. ⊎_elim (λ own. inl own) (λ passed. inr (passed_by s v passed)) (checked v among);
-        };
+      undecided = u;
+      drew = drew;
+      checked = λ v among. ⊎_elim (λ own. inl own) (λ passed. inr (passed_by s v passed)) (checked v among);
+    };
     read = λ p s b e unread no_changes no_fresh le saw checked. record {
-          drew = (unread.0, unread.1);
-          empty = unread.2;
-          no_changes = no_changes;
-          no_fresh = no_fresh;
-          seen_at = b;
-          past = le;
-          saw = saw.1;
-          checked = λ v among. passed_by s v (checked v among);
-        };
+      drew = (unread.0, unread.1);
+      empty = unread.2;
+      no_changes = no_changes;
+      no_fresh = no_fresh;
+      seen_at = b;
+      past = le;
+      saw = saw.1;
+      checked = λ v among. passed_by s v (checked v among);
+    };
     changed_node = λ x n v w b u covers seen lt. record {
-          undecided = u;
-          cause = (
-                v,
-                covers,
-                omega (arith, lt, seen.1, versions_never_fall h.opening h.clock h.item rule.run b h.clock n seen.0),
-              );
-        };
+      undecided = u;
+      cause = (
+        v,
+        covers,
+        omega (arith, lt, seen.1, versions_never_fall h.opening h.clock h.item rule.run b h.clock n seen.0),
+      );
+    };
     locked_node = λ x n pass s u other drew rival. record {
-          undecided = u;
-          cause = (other, rival_before_tells h rule n pass (h.published_at x) s (rule.drawn x s drew).1 rival);
-        };
+      undecided = u;
+      cause = (other, rival_before_tells h rule n pass (h.published_at x) s (rule.drawn x s drew).1 rival);
+    };
   }

@@ -1,12 +1,11 @@
 -- What notes serve for: with them a pass may make each step that has a condition, and needs no look at the state.
 use Rattle.std.specs.Prelude.{◌≡◌, ◌≢◌, ℕ, ◌<◌, ◌≤◌, ◌⊎◌, [], Some, None}
-use Rattle.pc_model.specs.declared.cell.Field.{Field}
 use Rattle.pc_model.specs.declared.cell.Field.TheVariants.{Version}
 use Rattle.pc_model.specs.Exchanges.{Visited, Changed, FreshNode, Exchange}
 use Rattle.pc_history.specs.Footprints.{IsAmong, IsOfWord, IsShaped}
 use Rattle.pc_protocol.specs.Histories.{Stage, absent, changed, locked, History, cells_now, IsPublished, IsUndecided, value_by}
 use Rattle.pc_protocol.specs.Seeing.{ChangesVersion, Covers}
-use Rattle.pc_protocol.specs.Rules.{IsReady, Rule}
+use Rattle.pc_protocol.specs.Rules.{IsReady}
 use Rattle.pc_protocol.specs.Notes.{Found, value, by, visited, saw, looked, held, drew, verdict, rival, IsTrueNote}
 use Rattle.pc_protocol.specs.Steps.{CanDraw, CanPublish, CanCommit, CanAbort, CanRead}
 use Rattle.pc_protocol.specs.Owned.{IsUnread}
