@@ -9,7 +9,7 @@ use Rattle.pc_history.specs.Footprints.{IsAmong, IsOfWord, LeavesWord}
 use Rattle.pc_history.proofs.Updates.{updated_here}
 use Rattle.pc_history.proofs.Footprints.{same_change}
 use Rattle.pc_history.proofs.Moments.{late_cells, versions_never_fall}
-use Rattle.pc_protocol.specs.Histories.{for_exchange, Stage, locked, History, moments, cells_now}
+use Rattle.pc_protocol.specs.Histories.{for_exchange, undecided, Stage, locked, History, moments, cells_now, IsPublished}
 use Rattle.pc_protocol.specs.Histories.{IsUndecided, value_by, IsSpare, Drew}
 use Rattle.pc_protocol.specs.Seeing.{ChangesVersion, Covers}
 use Rattle.pc_protocol.specs.Rules.{IsFrom, Refers, Rule}
@@ -157,6 +157,11 @@ module _ (h : History) (rule : Rule h) where
     look = look_tells;
     clock = clock_tells;
     stamp = λ x. (omega arith, updated_here h.drawn_for h.clock (for_exchange x) h.clock refl);
+    publication = λ x e b. (
+      subst IsPublished (sym (updated_here h.stage x undecided x refl)) tt,
+      updated_here h.op x e x refl,
+      updated_here h.published_at x b x refl,
+    );
     status = λ x d. (refl, d);
     rival_reference = λ n x c le is.
         let there : Refers h.stage h.op h.plain h.slot n Version x = rule.refers n Version x is in record {
@@ -175,7 +180,7 @@ module _ (h : History) (rule : Rule h) where
       past = le;
       cleared = uncleared_from x c (rule.running x (λ d. decided_not_undecided (h.stage x) d u));
     };
-    rival_told = λ n x pass is. (rule.told x (locked n pass) is).1;
+    rival_told = λ n x pass is. (rule.told x (locked n pass) is).3;
     rival_before = rival_before_tells;
     held_version = held_version_tells;
   }

@@ -11,7 +11,7 @@ use Rattle.pc_protocol.specs.Histories.{IsUndecided, IsDecided, value_by, IsUsed
 use Rattle.pc_protocol.specs.Seeing.{Covers, SawWord, Saw}
 use Rattle.pc_protocol.specs.Rules.{IsFrom, Rival, IsCause}
 use Rattle.pc_protocol.specs.Notes.{Found, value, by, IsBoundedBy, IsBelowFound, Looked, Note, visited, read_word}
-use Rattle.pc_protocol.specs.Notes.{saw, looked, held, drew, verdict, in_use, rival, in_run, cleared, IsCleared}
+use Rattle.pc_protocol.specs.Notes.{saw, looked, published, held, drew, verdict, in_use, rival, in_run, cleared, IsCleared}
 use Rattle.pc_protocol.specs.Notes.{IsTrueNote}
 
 -- at each moment a node's version rose, or the node is as before
@@ -99,8 +99,10 @@ module _ (h h' : History) (grows : Grows h h') where
     omega (arith, cause.2, grows.now n),
   )
   cause_stays x (locked n pass) p cause = (
-    (λ same. cause.0 (same ∙ grows.owner x)),
-    subst (λ (c : ℕ). Rival h' pass n c) (sym (grows.times x p)) (rival_stays pass n (h.published_at x) cause.1),
+    cause.0,
+    subst (λ (e : Exchange). Covers e n cause.0) (sym (grows.published x p).1) cause.1,
+    (λ same. cause.2 (same ∙ grows.owner x)),
+    subst (λ (c : ℕ). Rival h' pass n c) (sym (grows.times x p)) (rival_stays pass n (h.published_at x) cause.3),
   )
 
 pub notes_stay : (h h' : History) → NeverFalls (moments h) → Grows h h' → (k : Note) → IsTrueNote h k
@@ -121,6 +123,11 @@ notes_stay h h' falls grows (looked s n f) true' = (
   omega (arith, true'.0, grows.clock),
   grows.looked s n f true'.0 true'.1,
 )
+notes_stay h h' falls grows (published x e b) true' = (
+  (grows.published x true'.0).0,
+  (grows.published x true'.0).1 ∙ true'.1,
+  grows.times x true'.0 ∙ true'.2,
+)
 notes_stay h h' falls grows (held x n f) true' = (
   (grows.published x true'.0).0,
   (λ u. grows.held x n f u (true'.1 (grows.undecided x true'.0 u))),
@@ -140,8 +147,8 @@ notes_stay h h' falls grows (cleared x) true' = grows.clears x true'
 bound_stays : (stage stage' : ℕ → Stage) (op op' : ℕ → Exchange) (n v x : ℕ) → IsPublished (stage' x) → op' x ≡ op x
     → ((old new : ℕ) → value_by (stage' x) old new ≡ value_by (stage x) old new)
     → IsBoundedBy stage op n v x → IsBoundedBy stage' op' n v x
-bound_stays stage stage' op op' n v x published same worth bounded = record {
-  published = published;
+bound_stays stage stage' op op' n v x is_published same worth bounded = record {
+  published = is_published;
   change = bounded.change;
   among = subst (λ (e : Exchange). IsAmong bounded.change e.changes) (sym same) bounded.among;
   is_of = bounded.is_of;
@@ -149,7 +156,7 @@ bound_stays stage stage' op op' n v x published same worth bounded = record {
 }
 
 module _ (h h' : History) (same_cells : (t n : ℕ) → moments h' t n Version ≡ moments h t n Version)
-    (published : (x : ℕ) → IsPublished (h.stage x) → IsPublished (h'.stage x) × (h'.op x ≡ h.op x))
+    (still : (x : ℕ) → IsPublished (h.stage x) → IsPublished (h'.stage x) × (h'.op x ≡ h.op x))
     (undecided : (x : ℕ) → IsPublished (h.stage x) → IsUndecided (h'.stage x) → IsUndecided (h.stage x))
     (values : (x old new : ℕ) → IsPublished (h.stage x) → value_by (h'.stage x) old new ≡ value_by (h.stage x) old new)
     (drawn : (t x : ℕ) → Drew h.clock h.drawn_for t x → IsPublished (h.stage x))
@@ -158,15 +165,15 @@ module _ (h h' : History) (same_cells : (t n : ℕ) → moments h' t n Version �
       → IsBelowFound h'.stage h'.op n (moments h' s n Version) f
   below_stays s n (value w) below = subst (λ (v : ℕ). v ≤ w) (sym (same_cells s n)) below
   below_stays s n (by x) below = subst (λ (v : ℕ). IsBoundedBy h'.stage h'.op n v x) (sym (same_cells s n))
-      (bound_stays h.stage h'.stage h.op h'.op n (moments h s n Version) x (published x below.published).0
-      (published x below.published).1 (λ old new. values x old new below.published) below)
+      (bound_stays h.stage h'.stage h.op h'.op n (moments h s n Version) x (still x below.published).0
+      (still x below.published).1 (λ old new. values x old new below.published) below)
 
   pub looked_stays : (s n : ℕ) (f : Found) → s < h.clock → Looked h s n f → Looked h' s n f
   looked_stays s n f lt old = record {
     others = λ y t u drew below not_by.
         let old_drew : Drew h.clock h.drawn_for t y = old_draws t y (omega arith) drew in
         let was : IsPublished (h.stage y) = drawn t y old_drew in
-        subst (λ (e : Exchange). LeavesWord e n Version) (sym (published y was).1)
+        subst (λ (e : Exchange). LeavesWord e n Version) (sym (still y was).1)
         (old.others y t (undecided y was u) old_drew below not_by);
     below = below_stays s n f old.below;
   }

@@ -59,8 +59,8 @@ module _ (h : History) (rule : Rule h) where
         omega (arith, lt, seen.1, versions_never_fall h.opening h.clock h.item rule.run b h.clock n seen.0),
       );
     };
-    locked_node = λ x n pass s u other drew rival. record {
+    locked_node = λ x n v pass s u covers other drew rival. record {
       undecided = u;
-      cause = (other, rival_before_tells h rule n pass (h.published_at x) s (rule.drawn x s drew).1 rival);
+      cause = (v, covers, other, rival_before_tells h rule n pass (h.published_at x) s (rule.drawn x s drew).1 rival);
     };
   }

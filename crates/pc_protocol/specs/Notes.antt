@@ -51,6 +51,8 @@ pub data Note : Type 0 where
   saw : ℕ → Exchange → Note
   -- a version word was looked at for a stamp
   looked : ℕ → ℕ → Found → Note
+  -- the exchange is published, is this one, and this is the clock before its publication
+  published : ℕ → Exchange → ℕ → Note
   -- the exchange's reference was found in this word, or put there
   held : ℕ → ℕ → Field → Note
   -- a stamp was drawn for the exchange
@@ -71,6 +73,7 @@ IsTrueNote h (visited n v b) = (b ≤ h.clock) × (v ≤ moments h b n Version)
 IsTrueNote h (read_word n v f x b) = (b ≤ h.clock) × SawWord (moments h) b n v f x
 IsTrueNote h (saw b e) = (b ≤ h.clock) × Saw (moments h) b e
 IsTrueNote h (looked s n f) = (s < h.clock) × Looked h s n f
+IsTrueNote h (published x e b) = IsPublished (h.stage x) × (h.op x ≡ e) × (h.published_at x ≡ b)
 IsTrueNote h (held x n f) = IsPublished (h.stage x) × (IsUndecided (h.stage x) → h.reference n f ≡ Some x)
 IsTrueNote h (drew x s) = Drew h.clock h.drawn_for s x
 IsTrueNote h (verdict x st) = (h.stage x ≡ st) × IsDecided st

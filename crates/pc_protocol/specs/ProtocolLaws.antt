@@ -3,13 +3,14 @@ use Rattle.std.specs.Prelude.{◌≡◌, ℕ, ◌<◌, ◌≤◌, List, Option, 
 use Rattle.pc_model.specs.declared.cell.Field.{Field}
 use Rattle.pc_model.specs.declared.cell.Field.TheVariants.{Version}
 use Rattle.pc_model.specs.Cells.{Cells, IsEven, IsOdd}
-use Rattle.pc_model.specs.Exchanges.{Exchange, Stands}
+use Rattle.pc_model.specs.Exchanges.{Changed, Exchange, Stands, applied}
 use Rattle.pc_model.specs.Forms.{Form, IsSound, Fits}
 use Rattle.pc_model.specs.Linked.{opening_cells}
+use Rattle.pc_history.specs.Footprints.{IsAmong, IsOfWord}
 use Rattle.pc_history.specs.WorldRuns.{run_of, IsListOf}
 use Rattle.pc_protocol.specs.Histories.{for_exchange, for_read, Cause, committed, aborted, Slot, History, moments}
-use Rattle.pc_protocol.specs.Histories.{IsPublished, IsFree, IsUsed}
-use Rattle.pc_protocol.specs.Rules.{IsCause, Rule}
+use Rattle.pc_protocol.specs.Histories.{cells_now, IsPublished, IsFree, IsUsed, Drew}
+use Rattle.pc_protocol.specs.Rules.{IsTaken, IsCause, Rule}
 use Rattle.pc_protocol.specs.Steps.{Keeps, draw, CanDraw, publish, CanPublish, commit, CanCommit, abort, CanAbort}
 use Rattle.pc_protocol.specs.Steps.{take_read, CanRead, refer, CanRefer, fill, CanFill, take_slot, clear, CanClear}
 use Rattle.pc_protocol.specs.Notes.{IsCleared}
@@ -40,14 +41,27 @@ pub record StepsKeepTheRule (h : History) : Type 0 where
 -- An exchange that took effect stands in the run at its stamp, which was drawn for it, is below the clock, and isn't
 -- below the clock that was read before it was published.
 pub record StandsAtStamp (h : History) (x s : ℕ) : Type 0 where
-  pub below : s < h.clock
+  pub drew : Drew h.clock h.drawn_for s x
   pub since : h.published_at x ≤ s
   pub item : h.item s ≡ Some (h.op x)
   pub stands : Stands (h.op x) (moments h s)
 
--- what stands in the run at a stamp is below the clock, and stands in the cells that the earlier ones leave
+-- What the decision that an exchange takes effect does: each of its words held its reference in place of its old number,
+-- and is worth its new one then; every other word is worth what it was; and the exchange is applied to the cells.
+pub record CommitChanges (h : History) (x s : ℕ) : Type 0 where
+  pub held : (a : Changed) → IsAmong a (h.op x).changes → h.reference a.node a.field ≡ Some x
+  pub old : (a : Changed) → IsAmong a (h.op x).changes → h.plain a.node a.field ≡ a.old
+  pub new : (a : Changed) → IsAmong a (h.op x).changes → (commit h x s).plain a.node a.field ≡ a.new
+  pub others : (n : ℕ) (f : Field) → ((a : Changed) → IsAmong a (h.op x).changes → IsOfWord n f a → ⊥)
+      → (commit h x s).plain n f ≡ h.plain n f
+  pub cells : cells_now (commit h x s) ≡ applied (h.op x) (cells_now h)
+  pub stands : StandsAtStamp (commit h x s) x s
+
+-- what stands in the run at a stamp is below the clock, and stands in the cells that the earlier ones leave; it is a
+-- read, or an exchange that took effect at this stamp
 pub record StandsInRun (h : History) (s : ℕ) (e : Exchange) : Type 0 where
   pub below : s < h.clock
+  pub taken : IsTaken (h.drawn_for s) h.stage h.op s e
   pub stands : Stands e (moments h s)
 
 pub record RuleTells (h : History) : Type 0 where
@@ -55,6 +69,7 @@ pub record RuleTells (h : History) : Type 0 where
   pub world : (t : ℕ) → IsListOf h.opening h.item t (run_of h.item t)
   pub committed_stands : (x s : ℕ) → h.stage x ≡ committed s → StandsAtStamp h x s
   pub item_stands : (s : ℕ) (e : Exchange) → h.item s ≡ Some e → StandsInRun h s e
+  pub commit_changes : (x s : ℕ) → CanCommit h x s → CommitChanges h x s
   -- once an exchange was cleared, no word has its reference
   pub cleared_words : (x n : ℕ) (f : Field) → IsCleared (h.cleared_at x) → h.reference n f ≡ Some x → ⊥
   -- a failed exchange has its cause

@@ -54,12 +54,12 @@ pub record IsRival (owner : ℕ → ℕ) (stage : ℕ → Stage) (op : ℕ → E
 abbrev pub Rival : History → ℕ → ℕ → ℕ → Type 0
 Rival h = IsRival h.owner h.stage h.op h.cleared_at h.clock
 
--- why an exchange may fail: its owner withdraws; a node has a greater version than the one that it covers; another
--- pass is its rival since before it was published
+-- why an exchange may fail: its owner withdraws; a node has a greater version than the one that it covers; or for a
+-- node of which it covers a version another pass is a rival since before it was published
 abbrev pub IsCause : History → ℕ → Cause → Type 0
 IsCause h x withdrawn = Unit {0}
 IsCause h x (changed n) = (v : ℕ) × Covers (h.op x) n v × (v < cells_now h n Version)
-IsCause h x (locked n pass) = (pass ≢ h.owner x) × Rival h pass n (h.published_at x)
+IsCause h x (locked n pass) = (v : ℕ) × Covers (h.op x) n v × (pass ≢ h.owner x) × Rival h pass n (h.published_at x)
 
 pub record Rule (h : History) : Type 0 where
   -- the run: nothing stands from the clock on, each exchange stands in the cells at its stamp, and versions rise

@@ -41,6 +41,7 @@ pub record NotesServe (h : History) : Type 0 where
       → v < w
       → CanAbort h x (changed n)
   -- another pass was a rival at one of its stamps
-  pub locked_node : (x n pass s : ℕ) → IsUndecided (h.stage x) → pass ≢ h.owner x → IsTrueNote h (drew x s)
+  pub locked_node : (x n v pass s : ℕ) → IsUndecided (h.stage x) → Covers (h.op x) n v → pass ≢ h.owner x
+      → IsTrueNote h (drew x s)
       → IsTrueNote h (rival pass n s)
       → CanAbort h x (locked n pass)

@@ -8,8 +8,8 @@ use Rattle.pc_history.specs.Footprints.{IsAmong, IsOfWord}
 use Rattle.pc_protocol.specs.Histories.{for_exchange, aborted, locked, History, IsUndecided}
 use Rattle.pc_protocol.specs.Histories.{IsDecided, IsSpare}
 use Rattle.pc_protocol.specs.Seeing.{ChangesVersion, Covers}
-use Rattle.pc_protocol.specs.Notes.{Found, value, by, visited, read_word, saw, looked, held, drew, verdict, rival, IsTrueNote}
-use Rattle.pc_protocol.specs.Steps.{draw}
+use Rattle.pc_protocol.specs.Notes.{Found, value, by, visited, read_word, saw, looked, published, held, drew, verdict, rival, IsTrueNote}
+use Rattle.pc_protocol.specs.Steps.{draw, publish}
 
 -- what stands in a word: a number, where there is no reference, or a reference
 abbrev pub found_in : Option ℕ → ℕ → Found
@@ -40,6 +40,8 @@ pub record LoadsTell (h : History) : Type 0 where
   pub clock : (e : Exchange) → IsNoted h e → IsTrueNote h (saw h.clock e)
   -- a draw
   pub stamp : (x : ℕ) → IsTrueNote (draw h (for_exchange x)) (drew x h.clock)
+  -- a publication
+  pub publication : (x : ℕ) (e : Exchange) (b : ℕ) → IsTrueNote (publish h x e b) (published x e b)
   -- a status
   pub status : (x : ℕ) → IsDecided (h.stage x) → IsTrueNote h (verdict x (h.stage x))
   -- a rival: its reference in a version word, or the exchange itself, not decided, or the status of the own one
