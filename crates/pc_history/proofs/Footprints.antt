@@ -10,7 +10,7 @@ use Rattle.pc_model.specs.Exchanges.{ChangesStand, FreshStands, Stands, with_cha
 use Rattle.pc_model.proofs.Writes.{same_field, with_node-here, IsUnchanged}
 use Rattle.pc_model.proofs.Writes.{IsNotFresh, with_changes-else, with_changes-here, applied-else}
 use Rattle.pc_history.specs.Footprints.{IsAmong, IsOfWord, LeavesWord, Writes, WritesMiss, AreOnce}
-use Rattle.pc_history.specs.Footprints.{RaisesVersionOf, IsShaped, RaisesVersions}
+use Rattle.pc_history.specs.Footprints.{RaisesVersionOf, IsWellFormed, RaisesVersions}
 
 -- What stands, member by member
 
@@ -244,23 +244,23 @@ pub with_changes_left : (xs : List Changed) (c : Cells) (n : ℕ) (f : Field)
     → ((a : Changed) → IsAmong a xs → IsOfWord n f a → ⊥) → with_changes xs c n f ≡ c n f
 with_changes_left xs c n f unchanged = with_changes-else xs c n f (unchanged_by n f xs unchanged)
 
-module _ (e : Exchange) (shaped : IsShaped e) where
+module _ (e : Exchange) (well_formed : IsWellFormed e) where
   -- a changed word gets its new number
   pub applied_change : (c : Cells) (a : Changed) → IsAmong a e.changes → applied e c a.node a.field ≡ a.new
-  applied_change c a among = with_changes_at e.changes a (with_fresh e.fresh c) shaped.once among
+  applied_change c a among = with_changes_at e.changes a (with_fresh e.fresh c) well_formed.once among
 
   -- the fresh node gets its fields
   pub applied_fresh : (c : Cells) (g : FreshNode) (f : Field) → e.fresh ≡ Some g → applied e c g.node f ≡ g.fields f
   applied_fresh c g f is =
       with_changes_left e.changes (with_fresh e.fresh c) g.node f
-      (λ a among of_word. shaped.not_fresh a g among is of_word.0)
+      (λ a among of_word. well_formed.not_fresh a g among is of_word.0)
       ∙ ap (λ (o : Option FreshNode). with_fresh o c g.node f) is
       ∙ with_node-here g.node g.fields c f
 
   -- what leaves a node's version leaves the node
   pub leaves_node : (n : ℕ) → LeavesWord e n Version → (f : Field) → LeavesWord e n f
   leaves_node n leaves f = record {
-    unchanged = λ a among is. let version : RaisesVersionOf e a.node = shaped.raises a among in
+    unchanged = λ a among is. let version : RaisesVersionOf e a.node = well_formed.raises a among in
         leaves.unchanged version.change version.among (version.is_of.0 ∙ is.0, version.is_of.1);
     not_fresh = leaves.not_fresh;
   }
@@ -282,7 +282,7 @@ module _ (e : Exchange) (shaped : IsShaped e) where
       (λ change. let field : change.change.field ≡ Version = stays.1 change.change change.among change.is_of.0 in
       let version : Version ≡ f = sym field ∙ change.is_of.1 in
       subst (λ (g : Field). applied e c n g ≡ c n g) version (now ∙ stays.0 ∙ sym was))
-      (λ fresh. absurd (shaped.not_fresh v.change fresh.0 v.among fresh.1 (v.is_of.0 ∙ fresh.2)))
+      (λ fresh. absurd (well_formed.not_fresh v.change fresh.0 v.among fresh.1 (v.is_of.0 ∙ fresh.2)))
       writes)
       (λ leaves. applied_left e c n f leaves)
       (writes_or_leaves e n f)))
@@ -300,7 +300,7 @@ module _ (e : Exchange) (shaped : IsShaped e) where
   raises_versions c stands fresh n = ⊎_elim
       (λ writes. ⊎_elim
       (λ change. changed_node c stands n (subst (RaisesVersionOf e) change.is_of.0
-      (shaped.raises change.change change.among)))
+      (well_formed.raises change.change change.among)))
       (λ made. inl (subst (λ (x : ℕ). c x Version < applied e c x Version) (sym made.2)
       (fresh_rises c fresh made.0 made.1)))
       writes)

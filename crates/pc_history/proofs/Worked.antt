@@ -6,7 +6,7 @@ use Rattle.pc_model.specs.declared.cell.Field.{Field}
 use Rattle.pc_model.specs.declared.cell.Field.TheVariants.{Version, Value}
 use Rattle.pc_model.specs.Cells.{Cells}
 use Rattle.pc_model.specs.Exchanges.{Visited, Changed, FreshNode, Exchange}
-use Rattle.pc_history.specs.Footprints.{IsAmong, LeavesWord, WritesMiss, RaisesVersionOf, IsShaped}
+use Rattle.pc_history.specs.Footprints.{IsAmong, LeavesWord, WritesMiss, RaisesVersionOf, IsWellFormed}
 use Rattle.pc_history.specs.Runs.{Items, cells_at, put_item, OnItem, IsRun, MayEnter, HasEntered}
 use Rattle.pc_history.specs.WorldRuns.{run_of, IsListOf}
 use Rattle.pc_history.proofs.Updates.{on_updated}
@@ -36,8 +36,8 @@ node_is n a among = ⊎_elim
     (λ e. ap (λ (x : Changed). x.node) e)
     (λ later. ⊎_elim (λ e. ap (λ (x : Changed). x.node) e) (λ none'. absurd none') later) among
 
-is_shaped : (n : ℕ) → IsShaped (set_value n)
-is_shaped n = record {
+is_well_formed : (n : ℕ) → IsWellFormed (set_value n)
+is_well_formed n = record {
   once = (
     (λ b among is. ⊎_elim
         (λ e. let clash : ◌≡◌ {A = Field} Version Value = sym (ap (λ (x : Changed). x.field) e) ∙ is.1 in cc)
@@ -84,7 +84,7 @@ first_may = record {
   below = omega arith;
   empty = refl;
   stands = record { visits = ((refl, refl), tt); reads = tt; changes = (refl, (refl, tt)); fresh = tt };
-  raises = raises_versions (set_value 2) (is_shaped 2);
+  raises = raises_versions (set_value 2) (is_well_formed 2);
   misses = λ u lt. tt;
 }
 
@@ -100,7 +100,7 @@ late_may = record {
   below = omega arith;
   empty = refl;
   stands = record { visits = ((refl, refl), tt); reads = tt; changes = (refl, (refl, tt)); fresh = tt };
-  raises = raises_versions (set_value 3) (is_shaped 3);
+  raises = raises_versions (set_value 3) (is_well_formed 3);
   misses = λ u lt. on_updated nothing 3 (Some (set_value 2)) (OnItem (WritesMiss (set_value 3))) u
       (λ e. misses_other 3 2 (λ same. absurd (omega (arith, same))))
       (λ ne. tt);

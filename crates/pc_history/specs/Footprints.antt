@@ -53,7 +53,7 @@ pub record RaisesVersionOf (e : Exchange) (n : ℕ) : Type 0 where
 
 -- The exchange has the form that it may be published in: no word is changed twice, with each changed word
 -- comes the version of its node, and no change is of a word of the fresh node.
-pub record IsShaped (e : Exchange) : Type 0 where
+pub record IsWellFormed (e : Exchange) : Type 0 where
   pub once : AreOnce e.changes
   pub raises : (a : Changed) → IsAmong a e.changes → RaisesVersionOf e a.node
   pub not_fresh : (a : Changed) (g : FreshNode) → IsAmong a e.changes → e.fresh ≡ Some g → a.node ≢ g.node

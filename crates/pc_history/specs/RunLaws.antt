@@ -5,7 +5,7 @@ use Rattle.pc_model.specs.declared.cell.Field.TheVariants.{Version}
 use Rattle.pc_model.specs.Cells.{Cells}
 use Rattle.pc_model.specs.Exchanges.{Exchange}
 use Rattle.pc_model.specs.Forms.{Form, IsSound, Fits}
-use Rattle.pc_history.specs.Footprints.{IsShaped, RaisesVersions}
+use Rattle.pc_history.specs.Footprints.{IsWellFormed, RaisesVersions}
 use Rattle.pc_history.specs.Runs.{Items, cells_at, OnItem, IsRun, MayEnter, HasEntered}
 use Rattle.pc_history.specs.WorldRuns.{run_of, IsListOf}
 
@@ -20,7 +20,7 @@ pub record VersionsRise : Type 0 where
       → (cells_at opening item t n Version < cells_at opening item u n Version)
       ⊎ ((f : Field) → cells_at opening item u n f ≡ cells_at opening item t n f)
   -- that each exchange of a run raises versions is a matter of its form
-  pub shaped : (e : Exchange) → IsShaped e → RaisesVersions e
+  pub well_formed : (e : Exchange) → IsWellFormed e → RaisesVersions e
 
 -- the list of a run is a world run, at each moment
 abbrev pub RunsAreWorldRuns : Type 0

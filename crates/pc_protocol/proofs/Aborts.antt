@@ -75,6 +75,7 @@ module _ (h : History) (rule : Rule h) (x : ℕ) (cause : Cause) (can : CanAbort
     in_use = λ n is. is;
     looked = looked_stays h h' (λ t n. refl) (λ y p. (still_published y p, refl)) (λ y p u. was_undecided y u)
         (λ y old new p. same_value y old new) (λ t y drew. (rule.drawn y t drew).0) (λ t y lt drew. drew);
+    last = refl;
     owner = λ y. refl;
     times = λ y p. refl;
     cleared = λ y c le is. is;
@@ -83,13 +84,13 @@ module _ (h : History) (rule : Rule h) (x : ℕ) (cause : Cause) (can : CanAbort
     items = λ t d is. is;
   }
 
-  told_still : (y : ℕ) (w : Cause) → h'.stage y ≡ aborted w → IsCause h' y w
-  told_still y w is = ⊎_elim
+  caused_still : (y : ℕ) (w : Cause) → h'.stage y ≡ aborted w → IsCause h' y w
+  caused_still y w is = ⊎_elim
       (λ here. cause_stays h h' grows y w
       (subst (λ (z : ℕ). IsPublished (h.stage z)) (sym here.0) (undecided_is_published (h.stage x) open'))
       (let same : cause ≡ w = same_cause cause w here.1 in
       subst (λ (z : ℕ). IsCause h z w) (sym here.0) (subst (IsCause h x) same can.cause)))
-      (λ other. cause_stays h h' grows y w (aborted_is_published (h.stage y) w other.1) (rule.told y w other.1))
+      (λ other. cause_stays h h' grows y w (aborted_is_published (h.stage y) w other.1) (rule.caused y w other.1))
       (from_updated h.stage x (aborted cause) (λ (st : Stage). st ≡ aborted w) y is)
 
   running_still : (y : ℕ) → (IsDecided (h'.stage y) → ⊥) → h.cleared_at y ≡ None
@@ -110,11 +111,11 @@ module _ (h : History) (rule : Rule h) (x : ℕ) (cause : Cause) (can : CanAbort
         (still_published y (rule.refers n f y is).published) refl (same_value y) refl (λ used. used)
         (rule.refers n f y is);
     unused = rule.unused;
-    shaped = λ y p. rule.shaped y (was_published y p);
+    well_formed = λ y p. rule.well_formed y (was_published y p);
     fresh = λ y g u is. rule.fresh y g (was_undecided y u) is;
     apart = λ y z g k ne u v is_g is_k. rule.apart y z g k ne (was_undecided y u) (was_undecided z v) is_g is_k;
     saw = λ y u. rule.saw y (was_undecided y u);
-    told = told_still;
+    caused = caused_still;
     uncleared = rule.uncleared;
     running = running_still;
   }

@@ -8,7 +8,7 @@ use Rattle.pc_model.specs.declared.cell.Field.TheVariants.{Version}
 use Rattle.pc_model.specs.Cells.{IsOdd}
 use Rattle.pc_model.specs.Exchanges.{Visited, Seen, Changed, FreshNode, Exchange, Stands, with_fresh, applied}
 use Rattle.pc_model.proofs.Writes.{with_node-here, with_node-other}
-use Rattle.pc_history.specs.Footprints.{IsAmong, IsOfWord, LeavesWord, WritesMiss, IsShaped}
+use Rattle.pc_history.specs.Footprints.{IsAmong, IsOfWord, LeavesWord, WritesMiss, IsWellFormed}
 use Rattle.pc_history.specs.Runs.{OnItem, MayEnter, HasEntered}
 use Rattle.pc_history.proofs.Updates.{updated_here, updated_other, on_updated, from_updated}
 use Rattle.pc_history.proofs.Footprints.{applied_left, applied_change, leaves_there, leaves_node, visits_stand, reads_stand}
@@ -22,11 +22,11 @@ use Rattle.pc_protocol.specs.Histories.{IsUndecided, IsDecided, value_by, IsSpar
 use Rattle.pc_protocol.specs.Seeing.{Covers, SawWord, Saw}
 use Rattle.pc_protocol.specs.Rules.{IsTaken, Refers, IsReady, IsCause, Rule}
 use Rattle.pc_protocol.specs.Notes.{Found, value, by, IsBoundedBy, IsBelowFound, Looked}
-use Rattle.pc_protocol.specs.Steps.{Keeps, using, commit, CanCommit}
+use Rattle.pc_protocol.specs.Steps.{Keeps, slots_with, commit, CanCommit}
 use Rattle.pc_protocol.proofs.Stages.{same_option, none_not_some, undecided_is_published, decided_not_undecided}
 use Rattle.pc_protocol.proofs.Stages.{committed_not_undecided, same_stamp, undecided_value, aborted_is_published}
 use Rattle.pc_protocol.proofs.Items.{on_item_map, refers_stays}
-use Rattle.pc_protocol.proofs.Slots.{using_used, using_fresh, using_other}
+use Rattle.pc_protocol.proofs.Slots.{slots_with-used, slots_with-fresh, slots_with-other}
 use Rattle.pc_protocol.proofs.Notes.{Grows, cause_stays, notes_stay, saw_still, as_great}
 use Rattle.pc_protocol.proofs.Drawn.{is_empty, own_refers, own_at, own_fresh_stands, other_leaves_own, leaves_fresh_of}
 use Rattle.pc_protocol.proofs.Drawn.{changed_version_grows, passed_version, passed_others}
@@ -41,8 +41,8 @@ module _ (h : History) (rule : Rule h) (x s : ℕ) (can : CanCommit h x s) where
   open' : IsUndecided (h.stage x)
   open' = can.undecided
 
-  shaped : IsShaped e
-  shaped = rule.shaped x (undecided_is_published (h.stage x) open')
+  well_formed : IsWellFormed e
+  well_formed = rule.well_formed x (undecided_is_published (h.stage x) open')
 
   seen : Saw (moments h) (h.published_at x) e
   seen = rule.saw x open'
@@ -114,7 +114,7 @@ module _ (h : History) (rule : Rule h) (x s : ℕ) (can : CanCommit h x s) where
     below = can.drew.0;
     empty = empty_there;
     stands = stands_at;
-    raises = raises_versions e shaped;
+    raises = raises_versions e well_formed;
     misses = λ u lt. rule.misses x s u open' can.drew lt;
   }
 
@@ -132,7 +132,7 @@ module _ (h : History) (rule : Rule h) (x s : ℕ) (can : CanCommit h x s) where
     reads = λ r among.
         let there : (v : ℕ) × Covers e r.node v × SawWord (moments h) (h.published_at x) r.node v r.field r.number =
         seen.reads r among in
-        leaves_node (h.op y) (rule.shaped y (undecided_is_published (h.stage y) u)) r.node
+        leaves_node (h.op y) (rule.well_formed y (undecided_is_published (h.stage y) u)) r.node
         ((covered r.node there.0 there.1).1 y t ne u drew lt) r.field;
     changes = λ a among. other_leaves_own h rule x s open' can.drew y t ne u drew a among;
     fresh = λ g f is. leaves_fresh_of h rule y t u drew x open' ne g f is;
@@ -202,14 +202,14 @@ module _ (h : History) (rule : Rule h) (x s : ℕ) (can : CanCommit h x s) where
       (λ ne. rule.misses y t v was.1 drew lt)
 
   -- the plain values
-  filled_word : (o : Option FreshNode) → e.fresh ≡ o → (n : ℕ) (f : Field) → (IsSpare (using o h.slot n) → ⊥)
+  filled_word : (o : Option FreshNode) → e.fresh ≡ o → (n : ℕ) (f : Field) → (IsSpare (slots_with o h.slot n) → ⊥)
       → h.plain n f ≡ with_fresh o (cells_now h) n f
   filled_word None is n f not_spare = rule.plain_is n f not_spare
   filled_word (Some g) is n f not_spare = ⊎_elim
       (λ same. subst (λ (m : ℕ). h.plain m f ≡ with_fresh (Some g) (cells_now h) m f) (sym same)
       ((rule.fresh x g open' is).filled f ∙ sym (with_node-here g.node g.fields (cells_now h) f)))
       (λ ne. rule.plain_is n f (λ spare. not_spare
-      (subst IsSpare (sym (using_other (Some g) h.slot n (λ k is_k same. ne (same
+      (subst IsSpare (sym (slots_with-other (Some g) h.slot n (λ k is_k same. ne (same
       ∙ ap (λ (z : FreshNode). z.node) (let this : k ≡ g = cc in this))))) spare))
       ∙ sym (with_node-other g.node g.fields (cells_now h) n f ne))
       (cases_eq n g.node)
@@ -228,9 +228,9 @@ module _ (h : History) (rule : Rule h) (x s : ℕ) (can : CanCommit h x s) where
         among = old.among;
         is_of = old.is_of;
         value = ap (λ (st : Stage). value_by st old.change.old old.change.new) stage_here
-            ∙ sym (with_changes_at e.changes old.change h.plain shaped.once old.among)
+            ∙ sym (with_changes_at e.changes old.change h.plain well_formed.once old.among)
             ∙ (λ i. h'.plain (old.is_of.0 i) (old.is_of.1 i));
-        in_use = using_used e.fresh h.slot n old.in_use;
+        in_use = slots_with-used e.fresh h.slot n old.in_use;
       }
 
   refers_still : (n : ℕ) (f : Field) (y : ℕ) → h.reference n f ≡ Some y → Refers h'.stage h.op h'.plain h'.slot n f y
@@ -242,20 +242,20 @@ module _ (h : History) (rule : Rule h) (x s : ℕ) (can : CanCommit h x s) where
       (λ a b. ap (λ (st : Stage). value_by st a b) (stage_other y ne))
       (with_changes_left e.changes h.plain n f (λ a among is_of. ne (same_option (h.reference n f) y x is
       ((λ i. h.reference (sym is_of.0 i) (sym is_of.1 i)) ∙ rule.held x s a open' can.drew among))))
-      (using_used e.fresh h.slot n) old)
+      (slots_with-used e.fresh h.slot n) old)
       (cases_eq y x)
 
   unused_still : (n : ℕ) → (IsUsed (h'.slot n) → ⊥) → IsOdd (cells_now h' n Version)
   unused_still n not_used =
       let leaves : LeavesWord e n Version = record {
-        unchanged = λ a among is. not_used (using_used e.fresh h.slot n
+        unchanged = λ a among is. not_used (slots_with-used e.fresh h.slot n
             (subst (λ (m : ℕ). IsUsed (h.slot m)) is.0
             (own_refers h rule x s open' can.drew a among).in_use));
-        not_fresh = λ g is same. not_used (using_fresh e.fresh h.slot n g is same);
+        not_fresh = λ g is same. not_used (slots_with-fresh e.fresh h.slot n g is same);
       } in
       let same : cells_now h' n Version ≡ cells_now h n Version =
       (λ i. same_now i n Version) ∙ applied_left e (cells_now h) n Version leaves in
-      subst IsOdd (sym same) (rule.unused n (λ used. not_used (using_used e.fresh h.slot n used)))
+      subst IsOdd (sym same) (rule.unused n (λ used. not_used (slots_with-used e.fresh h.slot n used)))
 
   fresh_still : (y : ℕ) (k : FreshNode) → IsUndecided (h'.stage y) → (h.op y).fresh ≡ Some k
       → IsReady (cells_now h') h'.plain h'.slot k
@@ -266,7 +266,7 @@ module _ (h : History) (rule : Rule h) (x s : ℕ) (can : CanCommit h x s) where
       (λ same. was.0 (sym same)) k f is in
       let same : cells_now h' k.node Version ≡ cells_now h k.node Version =
       (λ i. same_now i k.node Version) ∙ applied_left e (cells_now h) k.node Version (leaves Version) in record {
-        is_spare = subst IsSpare (sym (using_other e.fresh h.slot k.node (leaves Version).not_fresh)) old.is_spare;
+        is_spare = subst IsSpare (sym (slots_with-other e.fresh h.slot k.node (leaves Version).not_fresh)) old.is_spare;
         version = old.version ∙ ap (λ (v : ℕ). v + 1) (sym same);
         filled = λ f. with_changes_left e.changes h.plain k.node f (leaves f).unchanged ∙ old.filled f;
       }
@@ -286,7 +286,7 @@ module _ (h : History) (rule : Rule h) (x s : ℕ) (can : CanCommit h x s) where
         let was : value_by (h.stage r) old.change.old old.change.new ≡ old.change.old =
         undecided_value (h.stage r) old.change.old old.change.new
         (subst (λ (z : ℕ). IsUndecided (h.stage z)) (sym same) open') in
-        omega (arith, old.bound, was, changed_version_grows e shaped old.change among old.is_of.1))
+        omega (arith, old.bound, was, changed_version_grows e well_formed old.change among old.is_of.1))
         (λ ne. old.bound);
   }
 
@@ -307,7 +307,7 @@ module _ (h : History) (rule : Rule h) (x s : ℕ) (can : CanCommit h x s) where
         let now : moments h' t n Version ≡ old.change.new =
         (λ i. entered.upper t lt i n Version)
         ∙ (λ i. applied e (moments h t) (sym old.is_of.0 i) (sym old.is_of.1 i))
-        ∙ applied_change e shaped (moments h t) old.change old.among in
+        ∙ applied_change e well_formed (moments h t) old.change old.among in
         omega (arith, worth, now);
   }
 
@@ -347,8 +347,9 @@ module _ (h : History) (rule : Rule h) (x s : ℕ) (can : CanCommit h x s) where
         (subst (λ (z : ℕ). IsDecided (h.stage z)) same d) open');
     draws = λ t y drew. drew;
     held = λ y n f u is. is;
-    in_use = using_used e.fresh h.slot;
+    in_use = slots_with-used e.fresh h.slot;
     looked = looked_still;
+    last = refl;
     owner = λ y. refl;
     times = λ y p. refl;
     cleared = λ y c le is. is;
@@ -358,10 +359,10 @@ module _ (h : History) (rule : Rule h) (x s : ℕ) (can : CanCommit h x s) where
         (sym empty_there ∙ ap h.item (sym same) ∙ is)) ∙ is;
   }
 
-  told_still : (y : ℕ) (w : Cause) → h'.stage y ≡ aborted w → IsCause h' y w
-  told_still y w is = ⊎_elim
+  caused_still : (y : ℕ) (w : Cause) → h'.stage y ≡ aborted w → IsCause h' y w
+  caused_still y w is = ⊎_elim
       (λ here. absurd (let clash : committed s ≡ aborted w = here.1 in cc))
-      (λ other. cause_stays h h' grows y w (aborted_is_published (h.stage y) w other.1) (rule.told y w other.1))
+      (λ other. cause_stays h h' grows y w (aborted_is_published (h.stage y) w other.1) (rule.caused y w other.1))
       (from_updated h.stage x (committed s) (λ (st : Stage). st ≡ aborted w) y is)
 
   running_still : (y : ℕ) → (IsDecided (h'.stage y) → ⊥) → h.cleared_at y ≡ None
@@ -379,12 +380,12 @@ module _ (h : History) (rule : Rule h) (x s : ℕ) (can : CanCommit h x s) where
     plain_is = plain_still;
     refers = refers_still;
     unused = unused_still;
-    shaped = λ y p. rule.shaped y (was_published y p);
+    well_formed = λ y p. rule.well_formed y (was_published y p);
     fresh = fresh_still;
     apart = λ y z g k ne u v is_g is_k. rule.apart y z g k ne (not_this y u).1 (not_this z v).1 is_g is_k;
     saw = λ y u. saw_still (moments h) (moments h') never_falls entered.risen (h.published_at y) (h.op y)
         (rule.saw y (not_this y u).1);
-    told = told_still;
+    caused = caused_still;
     uncleared = rule.uncleared;
     running = running_still;
   }

@@ -7,7 +7,7 @@ use Rattle.pc_model.specs.declared.cell.Field.{Field}
 use Rattle.pc_model.specs.declared.cell.Field.TheVariants.{Version}
 use Rattle.pc_model.specs.Cells.{IsOdd}
 use Rattle.pc_model.specs.Exchanges.{Visited, Changed, FreshNode, Exchange, FreshStands}
-use Rattle.pc_history.specs.Footprints.{IsAmong, LeavesWord, Writes, WritesMiss, RaisesVersionOf, IsShaped}
+use Rattle.pc_history.specs.Footprints.{IsAmong, LeavesWord, Writes, WritesMiss, RaisesVersionOf, IsWellFormed}
 use Rattle.pc_history.specs.Runs.{OnItem}
 use Rattle.pc_history.proofs.Footprints.{misses_back, same_change}
 use Rattle.pc_history.proofs.Moments.{word_stays}
@@ -17,7 +17,7 @@ use Rattle.pc_protocol.specs.Rules.{IsTaken, Refers, IsReady, Rule}
 use Rattle.pc_protocol.specs.Notes.{Found, value, by, IsBy, IsBoundedBy, Looked}
 use Rattle.pc_protocol.specs.Steps.{IsSettled, HasPassed}
 use Rattle.pc_protocol.proofs.Stages.{same_option, undecided_is_published, committed_not_undecided, undecided_value}
-use Rattle.pc_protocol.proofs.Stages.{one_drawer, no_read, used_not_spare, spare_not_used}
+use Rattle.pc_protocol.proofs.Stages.{one_purpose, no_read, used_not_spare, spare_not_used}
 use Rattle.pc_protocol.proofs.Items.{on_item_map}
 
 -- a stamp that was drawn for an exchange that isn't decided is empty
@@ -26,7 +26,7 @@ module _ (h : History) (rule : Rule h) (x s : ℕ) (open' : IsUndecided (h.stage
   not_taken : (e : Exchange) → IsTaken (h.drawn_for s) h.stage h.op s e → ⊥
   not_taken e taken = ⊎_elim
       (λ read. no_read (h.drawn_for s) x read.0.0 drew.1 read.0.1)
-      (λ other. let same : other.0 ≡ x = one_drawer (h.drawn_for s) other.0 x other.1 drew.1 in
+      (λ other. let same : other.0 ≡ x = one_purpose (h.drawn_for s) other.0 x other.1 drew.1 in
       committed_not_undecided (h.stage x) s (ap h.stage (sym same) ∙ other.2) open')
       taken
 
@@ -51,8 +51,8 @@ module _ (h : History) (rule : Rule h) (x s : ℕ) (open' : IsUndecided (h.stage
   pub own_word_stays : (n : ℕ) (f : Field) → Writes (h.op x) n f → cells_now h n f ≡ moments h s n f
   own_word_stays n f writes = word_stays h.opening h.item n f s h.clock (le_of_lt drew.0) (leaves_from n f writes)
 
-  shaped : IsShaped (h.op x)
-  shaped = rule.shaped x (undecided_is_published (h.stage x) open')
+  well_formed : IsWellFormed (h.op x)
+  well_formed = rule.well_formed x (undecided_is_published (h.stage x) open')
 
   pub own_refers : (a : Changed) → IsAmong a (h.op x).changes
       → Refers h.stage h.op h.plain h.slot a.node a.field x
@@ -62,7 +62,7 @@ module _ (h : History) (rule : Rule h) (x s : ℕ) (open' : IsUndecided (h.stage
   pub own_plain : (a : Changed) → IsAmong a (h.op x).changes → h.plain a.node a.field ≡ a.old
   own_plain a among =
       let there : Refers h.stage h.op h.plain h.slot a.node a.field x = own_refers a among in
-      let same : a ≡ there.change = same_change (h.op x).changes a there.change shaped.once among there.among
+      let same : a ≡ there.change = same_change (h.op x).changes a there.change well_formed.once among there.among
       there.is_of in
       sym there.value ∙ undecided_value (h.stage x) there.change.old there.change.new open'
       ∙ ap (λ (b : Changed). b.old) (sym same)
@@ -119,11 +119,11 @@ leaves_fresh_of h rule y t u drew_y x open' ne g f is = record {
 }
 
 -- a version that an exchange changes is as great afterwards
-pub changed_version_grows : (e : Exchange) → IsShaped e → (a : Changed) → IsAmong a e.changes → a.field ≡ Version
+pub changed_version_grows : (e : Exchange) → IsWellFormed e → (a : Changed) → IsAmong a e.changes → a.field ≡ Version
     → a.old ≤ a.new
-changed_version_grows e shaped a among field =
-    let v : RaisesVersionOf e a.node = shaped.raises a among in
-    let same : a ≡ v.change = same_change e.changes a v.change shaped.once among v.among
+changed_version_grows e well_formed a among field =
+    let v : RaisesVersionOf e a.node = well_formed.raises a among in
+    let same : a ≡ v.change = same_change e.changes a v.change well_formed.once among v.among
     (v.is_of.0, v.is_of.1 ∙ sym field) in
     subst (λ (b : Changed). b.old ≤ b.new) (sym same) (⊎_elim
     (λ rises. omega (arith, rises))

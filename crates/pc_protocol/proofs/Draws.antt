@@ -8,14 +8,14 @@ use Rattle.pc_history.specs.Footprints.{WritesMiss}
 use Rattle.pc_history.specs.Runs.{after, OnItem}
 use Rattle.pc_history.proofs.Moments.{versions_never_fall}
 use Rattle.pc_history.proofs.Updates.{updated_other, on_updated, from_updated}
-use Rattle.pc_protocol.specs.Histories.{Drawer, for_exchange, for_read, History, cells_now, Drew}
+use Rattle.pc_protocol.specs.Histories.{Purpose, for_exchange, for_read, History, cells_now, Drew}
 use Rattle.pc_protocol.specs.Rules.{IsTaken, IsReady, Rule}
 use Rattle.pc_protocol.specs.Steps.{Keeps, draw, CanDraw}
 use Rattle.pc_protocol.proofs.Items.{on_item_none}
 use Rattle.pc_protocol.proofs.Stages.{aborted_is_published}
 use Rattle.pc_protocol.proofs.Notes.{Grows, cause_stays, notes_stay, looked_stays}
 
-module _ (h : History) (rule : Rule h) (d : Drawer) (may : (x : ℕ) → d ≡ for_exchange x → CanDraw h x) where
+module _ (h : History) (rule : Rule h) (d : Purpose) (may : (x : ℕ) → d ≡ for_exchange x → CanDraw h x) where
   abbrev h' : History
   h' = draw h d
 
@@ -25,7 +25,7 @@ module _ (h : History) (rule : Rule h) (d : Drawer) (may : (x : ℕ) → d ≡ f
   new_or_old t x drew = ⊎_elim
       (λ new. inl new)
       (λ old. let below : t < suc h.clock = drew.0 in inr (omega (arith, below, old.0), old.1))
-      (from_updated h.drawn_for h.clock d (λ (k : Drawer). k ≡ for_exchange x) t drew.1)
+      (from_updated h.drawn_for h.clock d (λ (k : Purpose). k ≡ for_exchange x) t drew.1)
 
   still_drawn : (t x : ℕ) → Drew h.clock h.drawn_for t x → Drew h'.clock h'.drawn_for t x
   still_drawn t x drew = (
@@ -40,7 +40,7 @@ module _ (h : History) (rule : Rule h) (d : Drawer) (may : (x : ℕ) → d ≡ f
   same_now = ap (λ (o : Option Exchange). after o (cells_now h)) no_item_now
 
   taken_still : (t : ℕ) → OnItem (IsTaken (h'.drawn_for t) h.stage h.op t) (h.item t)
-  taken_still t = on_updated h.drawn_for h.clock d (λ (k : Drawer). OnItem (IsTaken k h.stage h.op t) (h.item t)) t
+  taken_still t = on_updated h.drawn_for h.clock d (λ (k : Purpose). OnItem (IsTaken k h.stage h.op t) (h.item t)) t
       (λ e. on_item_none (IsTaken d h.stage h.op t) (h.item t) (ap h.item e ∙ no_item_now))
       (λ ne. rule.taken t)
 
@@ -57,6 +57,7 @@ module _ (h : History) (rule : Rule h) (d : Drawer) (may : (x : ℕ) → d ≡ f
     looked = looked_stays h h' (λ t n. refl) (λ x p. (p, refl)) (λ x p u. u) (λ x old new p. refl)
         (λ t x drew. (rule.drawn x t drew).0)
         (λ t x lt drew. ⊎_elim (λ new. absurd (omega (arith, new.0, lt))) (λ old. old) (new_or_old t x drew));
+    last = refl;
     owner = λ x. refl;
     times = λ x p. refl;
     cleared = λ x c le is. is;
@@ -92,11 +93,11 @@ module _ (h : History) (rule : Rule h) (d : Drawer) (may : (x : ℕ) → d ≡ f
     plain_is = λ n f not_spare. rule.plain_is n f not_spare ∙ sym (λ i. same_now i n f);
     refers = rule.refers;
     unused = λ n not_used. subst (λ (c : Cells). IsOdd (c n Version)) (sym same_now) (rule.unused n not_used);
-    shaped = rule.shaped;
+    well_formed = rule.well_formed;
     fresh = λ x g u is. subst (λ (c : Cells). IsReady c h.plain h.slot g) (sym same_now) (rule.fresh x g u is);
     apart = rule.apart;
     saw = rule.saw;
-    told = λ x w is. cause_stays h h' grows x w (aborted_is_published (h.stage x) w is) (rule.told x w is);
+    caused = λ x w is. cause_stays h h' grows x w (aborted_is_published (h.stage x) w is) (rule.caused x w is);
     uncleared = rule.uncleared;
     running = rule.running;
   }

@@ -17,3 +17,4 @@ pub mod Stages
 pub mod Words
 pub mod Worked
 pub mod WorkedPair
+pub mod WorkedRead

@@ -8,7 +8,7 @@ use Rattle.pc_model.specs.Cells.{Cells, IsNode, IsEven, IsOdd}
 use Rattle.pc_model.specs.Exchanges.{Changed, FreshNode, Exchange, applied}
 use Rattle.pc_model.specs.Linked.{IsLinkField, IsUnmarked, IsLinked, opening_cells}
 use Rattle.pc_history.specs.Updates.{updated}
-use Rattle.pc_history.specs.Footprints.{IsAmong, IsOfWord, LeavesWord, IsShaped}
+use Rattle.pc_history.specs.Footprints.{IsAmong, IsOfWord, LeavesWord, IsWellFormed}
 use Rattle.pc_history.specs.Runs.{after}
 use Rattle.pc_history.proofs.Updates.{on_updated, from_updated}
 use Rattle.pc_history.proofs.Footprints.{applied_left, applied_change, applied_fresh, leaves_node, writes_or_leaves}
@@ -16,11 +16,11 @@ use Rattle.pc_protocol.specs.Histories.{Slot, free, spare, used, undecided, for_
 use Rattle.pc_protocol.specs.Histories.{committed, History, cells_now, IsPublished, IsFree, IsUsed}
 use Rattle.pc_protocol.specs.Rules.{IsReady, Rule}
 use Rattle.pc_protocol.specs.Steps.{draw, publish, commit, CanCommit, abort, CanAbort, take_read}
-use Rattle.pc_protocol.specs.Steps.{take_slot, using}
+use Rattle.pc_protocol.specs.Steps.{take_slot, slots_with}
 use Rattle.pc_protocol.specs.Openings.{opened, opening_slots}
 use Rattle.pc_protocol.specs.Links.{MarksAlone, LinksRule, LinksAreInUse, StepsKeepLinks, LinksLaw}
 use Rattle.pc_protocol.proofs.Stages.{undecided_is_published, free_not_used, spare_not_used, spare_not_free}
-use Rattle.pc_protocol.proofs.Slots.{using_used, using_other}
+use Rattle.pc_protocol.proofs.Slots.{slots_with-used, slots_with-other}
 use Rattle.pc_protocol.proofs.Openings.{nothing_yet}
 use Rattle.pc_protocol.proofs.Drawn.{own_refers}
 use Rattle.pc_protocol.proofs.Commits as Commits
@@ -111,8 +111,8 @@ module _ (slots : ℕ) (h : History) (rule : Rule h) (links : LinksRule slots h)
     abbrev h' : History
     h' = commit h x s
 
-    shaped : IsShaped e
-    shaped = rule.shaped x (undecided_is_published (h.stage x) can.undecided)
+    well_formed : IsWellFormed e
+    well_formed = rule.well_formed x (undecided_is_published (h.stage x) can.undecided)
 
     same_now : cells_now h' ≡ applied e (cells_now h)
     same_now = Commits.same_now h rule x s can
@@ -126,7 +126,7 @@ module _ (slots : ℕ) (h : History) (rule : Rule h) (links : LinksRule slots h)
     left_link n f is_used leaves link ne =
         let same : cells_now h' n f ≡ cells_now h n f = now_at n f ∙ applied_left e (cells_now h) n f leaves in
         subst (λ (m : ℕ). IsUsed (h'.slot m)) (sym same)
-        (using_used e.fresh h.slot (cells_now h n f)
+        (slots_with-used e.fresh h.slot (cells_now h n f)
         (links_in_use n f is_used link (λ zero_link. ne (same ∙ zero_link))))
 
     -- the node that it marks keeps its links
@@ -138,7 +138,7 @@ module _ (slots : ℕ) (h : History) (rule : Rule h) (links : LinksRule slots h)
           let version : b.field ≡ Version = links.marks x (undecided_is_published (h.stage x) can.undecided) a b among
           in_b is.1 odd (is_b.0 ∙ sym is.0) in
           subst IsLinkField (sym is_b.1 ∙ version) link;
-      not_fresh = λ g is_g same. shaped.not_fresh a g among is_g (is.0 ∙ same);
+      not_fresh = λ g is_g same. well_formed.not_fresh a g among is_g (is.0 ∙ same);
     }
 
     dead_links_still : (n : ℕ) (f : Field) → IsUsed (h'.slot n) → IsOdd (cells_now h' n Version) → IsLinkField f
@@ -148,7 +148,7 @@ module _ (slots : ℕ) (h : History) (rule : Rule h) (links : LinksRule slots h)
         (λ writes. ⊎_elim
         (λ change. let now : cells_now h' n Version ≡ change.change.new = now_at n Version
         ∙ (λ i. applied e (cells_now h) (sym change.is_of.0 i) (sym change.is_of.1 i))
-        ∙ applied_change e shaped (cells_now h) change.change change.among in
+        ∙ applied_change e well_formed (cells_now h) change.change change.among in
         let is_odd : IsOdd change.change.new = subst IsOdd now odd in
         let was_used : IsUsed (h.slot n) = subst (λ (m : ℕ). IsUsed (h.slot m)) change.is_of.0
         (own_refers h rule x s can.undecided can.drew change.change change.among).in_use in
@@ -159,12 +159,12 @@ module _ (slots : ℕ) (h : History) (rule : Rule h) (links : LinksRule slots h)
         (spare_not_used (h.slot made.0.node) ready.is_spare) in
         let now : cells_now h' n Version ≡ cells_now h made.0.node Version + 1 = now_at n Version
         ∙ ap (λ (m : ℕ). applied e (cells_now h) m Version) made.2
-        ∙ applied_fresh e shaped (cells_now h) made.0 Version made.1 ∙ ready.version in
+        ∙ applied_fresh e well_formed (cells_now h) made.0 Version made.1 ∙ ready.version in
         absurd (odd_then_even (cells_now h made.0.node Version) was_odd (subst IsOdd now odd)))
         writes)
         (λ leaves. let was_used : IsUsed (h.slot n) = subst IsUsed
-        (using_other e.fresh h.slot n leaves.not_fresh) is_used in
-        left_link n f was_used (leaves_node e shaped n leaves f) link ne)
+        (slots_with-other e.fresh h.slot n leaves.not_fresh) is_used in
+        left_link n f was_used (leaves_node e well_formed n leaves f) link ne)
         (writes_or_leaves e n Version)
       where
         odd_then_even : (v : ℕ) → IsOdd v → IsOdd (v + 1) → ⊥
@@ -173,7 +173,7 @@ module _ (slots : ℕ) (h : History) (rule : Rule h) (links : LinksRule slots h)
     ranged_still : (n : ℕ) → (IsFree (h'.slot n) → ⊥) → IsNode slots n
     ranged_still n not_free = by_fresh e.fresh refl not_free
       where
-        by_fresh : (o : Option FreshNode) → e.fresh ≡ o → (IsFree (using o h.slot n) → ⊥) → IsNode slots n
+        by_fresh : (o : Option FreshNode) → e.fresh ≡ o → (IsFree (slots_with o h.slot n) → ⊥) → IsNode slots n
         by_fresh None is other = links.ranged n other
         by_fresh (Some g) is other = ⊎_elim
             (λ same. links.ranged n (λ is_free. spare_not_free (h.slot g.node)
@@ -213,14 +213,14 @@ only_root n not_free = ⊎_elim
     (λ other. absurd (not_free (subst IsFree (sym (cond-false (n == 1) used free (ne_eqb n 1 other))) tt)))
     (cases_eq n 1)
 
-opening_links : (slots version start : ℕ) (owner : ℕ → ℕ) → IsEven version
-    → LinksRule slots (opened (opening_cells version) start owner opening_slots)
-opening_links slots version start owner even = record {
+opening_links : (slots version start last : ℕ) (owner : ℕ → ℕ) → IsEven version
+    → LinksRule slots (opened (opening_cells version) start last owner opening_slots)
+opening_links slots version start last owner even = record {
   ranged = λ n not_free. let one : n ≡ 1 = only_root n not_free in (omega (arith, one), omega (arith, one));
   marks = λ x p. absurd p;
   dead_links = λ n f is_used odd link ne.
       let one : n ≡ 1 = only_root n (used_not_free (opening_slots n) is_used) in
-      let now : cells_now (opened (opening_cells version) start owner opening_slots) n Version ≡ version =
+      let now : cells_now (opened (opening_cells version) start last owner opening_slots) n Version ≡ version =
       (λ i. nothing_yet (opening_cells version) start i n Version)
       ∙ ap (λ (m : ℕ). opening_cells version m Version) one in
       absurd (omega (arith, even, odd, now));

@@ -9,7 +9,7 @@ use Rattle.pc_history.specs.Footprints.{IsAmong, IsOfWord, LeavesWord}
 use Rattle.pc_history.proofs.Updates.{updated_here}
 use Rattle.pc_history.proofs.Footprints.{same_change}
 use Rattle.pc_history.proofs.Moments.{late_cells, versions_never_fall}
-use Rattle.pc_protocol.specs.Histories.{for_exchange, undecided, Stage, locked, History, moments, cells_now, IsPublished}
+use Rattle.pc_protocol.specs.Histories.{for_exchange, ended, changed, undecided, Stage, locked, History, moments, cells_now, IsPublished}
 use Rattle.pc_protocol.specs.Histories.{IsUndecided, value_by, IsSpare, Drew}
 use Rattle.pc_protocol.specs.Seeing.{ChangesVersion, Covers}
 use Rattle.pc_protocol.specs.Rules.{IsFrom, Refers, Rule}
@@ -49,7 +49,7 @@ module _ (h : History) (rule : Rule h) where
   value_of n f x a is among is_of =
       let there : Refers h.stage h.op h.plain h.slot n f x = rule.refers n f x is in
       let same : a ≡ there.change = same_change (h.op x).changes a there.change
-      (rule.shaped x there.published).once among there.among
+      (rule.well_formed x there.published).once among there.among
       (there.is_of.0 ∙ sym is_of.0, there.is_of.1 ∙ sym is_of.1) in
       ap (λ (b : Changed). value_by (h.stage x) b.old b.new) same ∙ there.value
 
@@ -67,7 +67,7 @@ module _ (h : History) (rule : Rule h) where
       → IsOfWord n Version a → IsTrueNote h (visited n a.old h.clock)
   reference_version_tells n x a is among is_of =
       let grows : a.old ≤ a.new =
-      changed_version_grows (h.op x) (rule.shaped x (rule.refers n Version x is).published) a among is_of.1 in
+      changed_version_grows (h.op x) (rule.well_formed x (rule.refers n Version x is).published) a among is_of.1 in
       let least : a.old ≤ value_by (h.stage x) a.old a.new = at_least (h.stage x) a.old a.new grows in
       (le_refl h.clock, omega (arith, least, value_of n Version x a is among is_of, now_is n Version x is))
 
@@ -155,6 +155,7 @@ module _ (h : History) (rule : Rule h) where
     reference = reference_tells;
     reference_version = reference_version_tells;
     look = look_tells;
+    time = le_refl h.clock;
     clock = clock_tells;
     stamp = λ x. (omega arith, updated_here h.drawn_for h.clock (for_exchange x) h.clock refl);
     publication = λ x e b. (
@@ -180,7 +181,11 @@ module _ (h : History) (rule : Rule h) where
       past = le;
       cleared = uncleared_from x c (rule.running x (λ d. decided_not_undecided (h.stage x) d u));
     };
-    rival_told = λ n x pass is. (rule.told x (locked n pass) is).3;
+    changed_told = λ n x v is least.
+        let cause : (w : ℕ) × Covers (h.op x) n w × (w < cells_now h n Version) = rule.caused x (changed n) is in
+        (le_refl h.clock, omega (arith, cause.2, least cause.0 cause.1));
+    ended_told = λ x is. rule.caused x ended is;
+    rival_told = λ n x pass is. (rule.caused x (locked n pass) is).3;
     rival_before = rival_before_tells;
     held_version = held_version_tells;
   }

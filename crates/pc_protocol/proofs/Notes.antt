@@ -6,11 +6,11 @@ use Rattle.pc_model.specs.declared.cell.Field.TheVariants.{Version}
 use Rattle.pc_model.specs.Cells.{Cells}
 use Rattle.pc_model.specs.Exchanges.{Exchange}
 use Rattle.pc_history.specs.Footprints.{IsAmong, HasChange, LeavesWord}
-use Rattle.pc_protocol.specs.Histories.{Cause, withdrawn, changed, locked, Stage, History, moments, cells_now, IsPublished}
+use Rattle.pc_protocol.specs.Histories.{Cause, withdrawn, ended, changed, locked, Stage, History, moments, cells_now, IsPublished}
 use Rattle.pc_protocol.specs.Histories.{IsUndecided, IsDecided, value_by, IsUsed, Drew}
 use Rattle.pc_protocol.specs.Seeing.{Covers, SawWord, Saw}
 use Rattle.pc_protocol.specs.Rules.{IsFrom, Rival, IsCause}
-use Rattle.pc_protocol.specs.Notes.{Found, value, by, IsBoundedBy, IsBelowFound, Looked, Note, visited, read_word}
+use Rattle.pc_protocol.specs.Notes.{Found, value, by, IsBoundedBy, IsBelowFound, Looked, Note, clock_was, visited, read_word}
 use Rattle.pc_protocol.specs.Notes.{saw, looked, published, held, drew, verdict, in_use, rival, in_run, cleared, IsCleared}
 use Rattle.pc_protocol.specs.Notes.{IsTrueNote}
 
@@ -70,6 +70,7 @@ pub record Grows (h h' : History) : Type 0 where
   pub held : (x n : ℕ) (f : Field) → IsUndecided (h'.stage x) → h.reference n f ≡ Some x → h'.reference n f ≡ Some x
   pub in_use : (n : ℕ) → IsUsed (h.slot n) → IsUsed (h'.slot n)
   pub looked : (s n : ℕ) (f : Found) → s < h.clock → Looked h s n f → Looked h' s n f
+  pub last : h'.last ≡ h.last
   pub owner : (x : ℕ) → h'.owner x ≡ h.owner x
   pub times : (x : ℕ) → IsPublished (h.stage x) → h'.published_at x ≡ h.published_at x
   pub cleared : (x c : ℕ) → c ≤ h.clock → IsFrom c (h.cleared_at x) → IsFrom c (h'.cleared_at x)
@@ -93,6 +94,7 @@ module _ (h h' : History) (grows : Grows h h') where
 
   pub cause_stays : (x : ℕ) (w : Cause) → IsPublished (h.stage x) → IsCause h x w → IsCause h' x w
   cause_stays x withdrawn p cause = tt
+  cause_stays x ended p cause = omega (arith, cause, grows.clock, grows.last)
   cause_stays x (changed n) p cause = (
     cause.0,
     subst (λ (e : Exchange). Covers e n cause.0) (sym (grows.published x p).1) cause.1,
@@ -107,6 +109,7 @@ module _ (h h' : History) (grows : Grows h h') where
 
 pub notes_stay : (h h' : History) → NeverFalls (moments h) → Grows h h' → (k : Note) → IsTrueNote h k
     → IsTrueNote h' k
+notes_stay h h' falls grows (clock_was c) true' = omega (arith, true', grows.clock)
 notes_stay h h' falls grows (visited n v b) true' = (
   omega (arith, true'.0, grows.clock),
   omega (arith, true'.1, as_great (moments h) (moments h') falls grows.rose b n),

@@ -16,9 +16,9 @@ pub nothing_yet : (cells : Cells) (t : ℕ) → cells_at cells (λ _. None) t �
 nothing_yet cells zero = refl
 nothing_yet cells (suc t) = nothing_yet cells t
 
-pub rule_at_opening : (cells : Cells) (start : ℕ) (owner : ℕ → ℕ) (slots : ℕ → Slot)
-    → ((n : ℕ) → (IsUsed (slots n) → ⊥) → IsOdd (cells n Version)) → Rule (opened cells start owner slots)
-rule_at_opening cells start owner slots odd = record {
+pub rule_at_opening : (cells : Cells) (start last : ℕ) (owner : ℕ → ℕ) (slots : ℕ → Slot)
+    → ((n : ℕ) → (IsUsed (slots n) → ⊥) → IsOdd (cells n Version)) → Rule (opened cells start last owner slots)
+rule_at_opening cells start last owner slots odd = record {
   run = record { late = λ t le. refl; stands = λ t. tt; raises = λ t. tt };
   taken = λ t. tt;
   standing = λ x t is. absurd (let clash : absent ≡ committed t = is in cc);
@@ -29,11 +29,11 @@ rule_at_opening cells start owner slots odd = record {
   plain_is = λ n f not_spare. sym (λ i. nothing_yet cells start i n f);
   refers = λ n f x is. absurd (none_not_some x is);
   unused = λ n not_used. subst (λ (c : Cells). IsOdd (c n Version)) (sym (nothing_yet cells start)) (odd n not_used);
-  shaped = λ x p. absurd p;
+  well_formed = λ x p. absurd p;
   fresh = λ x g u is. absurd u;
   apart = λ x y g k ne u v is_g is_k. absurd u;
   saw = λ x u. absurd u;
-  told = λ x w is. absurd (let clash : absent ≡ aborted w = is in cc);
+  caused = λ x w is. absurd (let clash : absent ≡ aborted w = is in cc);
   uncleared = λ n f x is. refl;
   running = λ x not_decided. refl;
 }
@@ -49,6 +49,6 @@ opening_odd version n even not_used = ⊎_elim
 pub rule_holds_at_openings : RuleHoldsAtOpenings
 rule_holds_at_openings = record {
   any = rule_at_opening;
-  usual = λ version start owner even. rule_at_opening (opening_cells version) start owner opening_slots
+  usual = λ version start last owner even. rule_at_opening (opening_cells version) start last owner opening_slots
       (λ n not_used. opening_odd version n even not_used);
 }

@@ -7,18 +7,18 @@ use Rattle.pc_history.specs.Footprints.{LeavesWord}
 use Rattle.pc_history.specs.Runs.{after}
 use Rattle.pc_history.proofs.Updates.{updated_here, updated_other, on_updated, word_updated_here, word_updated_other}
 use Rattle.pc_history.proofs.Footprints.{applied_left, with_changes_left}
-use Rattle.pc_protocol.specs.Histories.{Drawer, for_read, spare, History, cells_now, IsSpare, IsUsed}
+use Rattle.pc_protocol.specs.Histories.{Purpose, for_read, spare, History, cells_now, IsSpare, IsUsed}
 use Rattle.pc_protocol.specs.Rules.{Rule}
 use Rattle.pc_protocol.specs.Steps.{draw, commit, CanCommit, take_slot}
 use Rattle.pc_protocol.specs.Owned.{KeepsOwned, MakesNot, StepsKeepOwned}
 use Rattle.pc_protocol.proofs.Stages.{no_read, spare_not_used}
-use Rattle.pc_protocol.proofs.Slots.{using_other}
+use Rattle.pc_protocol.proofs.Slots.{slots_with-other}
 use Rattle.pc_protocol.proofs.Drawn.{own_refers}
 use Rattle.pc_protocol.proofs.Commits as Commits
 use Rattle.pc_protocol.proofs.Reading as Reading
 
 module _ (h : History) (rule : Rule h) where
-  draw_owned : (d : Drawer) → KeepsOwned h (draw h d)
+  draw_owned : (d : Purpose) → KeepsOwned h (draw h d)
   draw_owned d = record {
     unread = λ p s is. (
       omega (arith, is.0),
@@ -44,7 +44,7 @@ module _ (h : History) (rule : Rule h) where
     }
 
     spare_after : IsSpare ((commit h x t).slot n)
-    spare_after = subst IsSpare (sym (using_other (h.op x).fresh h.slot n makes_not)) is
+    spare_after = subst IsSpare (sym (slots_with-other (h.op x).fresh h.slot n makes_not)) is
 
     version_after : cells_now (commit h x t) n Version ≡ cells_now h n Version
     version_after = (λ i. Commits.same_now h rule x t can i n Version)

@@ -4,7 +4,7 @@ use Rattle.std.proofs.lemmas.Bool.{cases_lt}
 use Rattle.pc_model.specs.Cells.{Cells}
 use Rattle.pc_model.specs.Exchanges.{Exchange, Stands}
 use Rattle.pc_model.specs.Forms.{Form, IsSound, Fits}
-use Rattle.pc_history.specs.Footprints.{IsShaped}
+use Rattle.pc_history.specs.Footprints.{IsWellFormed}
 use Rattle.pc_history.proofs.Updates.{updated_here}
 use Rattle.pc_history.proofs.Footprints.{with_changes_at, with_changes_left}
 use Rattle.pc_history.proofs.SoundRuns.{runs_stay_sound}
@@ -52,10 +52,10 @@ committed_stands_at h rule x s is = record {
 
 commit_changes_at : (h : History) → Rule h → (x s : ℕ) → CanCommit h x s → CommitChanges h x s
 commit_changes_at h rule x s can =
-    let shaped : IsShaped (h.op x) = rule.shaped x (undecided_is_published (h.stage x) can.undecided) in record {
+    let well_formed : IsWellFormed (h.op x) = rule.well_formed x (undecided_is_published (h.stage x) can.undecided) in record {
       held = λ a among. rule.held x s a can.undecided can.drew among;
       old = own_plain h rule x s can.undecided can.drew;
-      new = λ a among. with_changes_at (h.op x).changes a h.plain shaped.once among;
+      new = λ a among. with_changes_at (h.op x).changes a h.plain well_formed.once among;
       others = λ n f unchanged. with_changes_left (h.op x).changes h.plain n f unchanged;
       cells = Commits.same_now h rule x s can;
       stands = committed_stands_at (commit h x s) (commit_keeps h rule x s can).rule x s
@@ -79,7 +79,7 @@ rule_tells h rule = record {
   item_stands = item_stands_at h rule;
   commit_changes = commit_changes_at h rule;
   cleared_words = λ x n f is_cleared is. subst IsCleared (rule.uncleared n f x is) is_cleared;
-  cause = rule.told;
+  cause = rule.caused;
   loads = loads_tell h rule;
   notes = notes_serve h rule;
 }

@@ -4,7 +4,7 @@ use Rattle.std.proofs.Common.{le_refl}
 use Rattle.std.proofs.lemmas.Bool.{cases_eq}
 use Rattle.pc_model.specs.declared.cell.Field.TheVariants.{Version}
 use Rattle.pc_model.specs.Exchanges.{Changed, FreshNode, Exchange}
-use Rattle.pc_history.specs.Footprints.{IsAmong, WritesMiss, IsShaped}
+use Rattle.pc_history.specs.Footprints.{IsAmong, WritesMiss, IsWellFormed}
 use Rattle.pc_history.specs.Runs.{OnItem}
 use Rattle.pc_history.proofs.Moments.{versions_never_fall}
 use Rattle.pc_history.proofs.Updates.{updated_here, updated_other, on_updated, from_updated}
@@ -94,10 +94,10 @@ module _ (h : History) (rule : Rule h) (x : ℕ) (e : Exchange) (b : ℕ) (can :
       subst (λ (d : Exchange). OnItem (WritesMiss d) (h.item v)) (sym (same_op y p))
       (rule.misses y t v (was_undecided y (is_other y p) u) drew lt)
 
-  shaped_still : (y : ℕ) → IsPublished (h'.stage y) → IsShaped (h'.op y)
-  shaped_still y p = on_updated h.op x e IsShaped y
-      (λ same. can.shaped)
-      (λ ne. rule.shaped y (was_published y ne p))
+  well_formed_still : (y : ℕ) → IsPublished (h'.stage y) → IsWellFormed (h'.op y)
+  well_formed_still y p = on_updated h.op x e IsWellFormed y
+      (λ same. can.well_formed)
+      (λ ne. rule.well_formed y (was_published y ne p))
 
   fresh_still : (y : ℕ) (g : FreshNode) → IsUndecided (h'.stage y) → (h'.op y).fresh ≡ Some g
       → IsReady (cells_now h) h.plain h.slot g
@@ -142,6 +142,7 @@ module _ (h : History) (rule : Rule h) (x : ℕ) (e : Exchange) (b : ℕ) (can :
     looked = looked_stays h h' (λ t n. refl) (λ y p. (still_published y p, same_op y p))
         (λ y p u. was_undecided y (is_other y p) u) same_value (λ t y drew. (rule.drawn y t drew).0)
         (λ t y lt drew. drew);
+    last = refl;
     owner = λ y. refl;
     times = λ y p. time_other y (is_other y p);
     cleared = λ y c le is. is;
@@ -150,10 +151,10 @@ module _ (h : History) (rule : Rule h) (x : ℕ) (e : Exchange) (b : ℕ) (can :
     items = λ t d is. is;
   }
 
-  told_still : (y : ℕ) (w : Cause) → h'.stage y ≡ aborted w → IsCause h' y w
-  told_still y w is = ⊎_elim
+  caused_still : (y : ℕ) (w : Cause) → h'.stage y ≡ aborted w → IsCause h' y w
+  caused_still y w is = ⊎_elim
       (λ here. absurd (let clash : undecided ≡ aborted w = here.1 in cc))
-      (λ other. cause_stays h h' grows y w (aborted_is_published (h.stage y) w other.1) (rule.told y w other.1))
+      (λ other. cause_stays h h' grows y w (aborted_is_published (h.stage y) w other.1) (rule.caused y w other.1))
       (from_updated h.stage x undecided (λ (st : Stage). st ≡ aborted w) y is)
 
   running_still : (y : ℕ) → (IsDecided (h'.stage y) → ⊥) → h.cleared_at y ≡ None
@@ -175,11 +176,11 @@ module _ (h : History) (rule : Rule h) (x : ℕ) (e : Exchange) (b : ℕ) (can :
         refers_stays h.stage h'.stage h.op h'.op h.plain h.plain h.slot h.slot n f y (still_published y p)
         (same_op y p) (λ old new. same_value y old new p) refl (λ used. used) (rule.refers n f y is);
     unused = rule.unused;
-    shaped = shaped_still;
+    well_formed = well_formed_still;
     fresh = fresh_still;
     apart = apart_still;
     saw = saw_still;
-    told = told_still;
+    caused = caused_still;
     uncleared = rule.uncleared;
     running = running_still;
   }

@@ -123,7 +123,7 @@ module _ (h : History) (rule : Rule h) (p s : ℕ) (e : Exchange) (can : CanRead
     reads = λ r among.
         let there : (v : ℕ) × Covers e r.node v × SawWord (moments h) can.seen_at r.node v r.field r.number =
         can.saw.reads r among in
-        leaves_node (h.op y) (rule.shaped y (undecided_is_published (h.stage y) u)) r.node
+        leaves_node (h.op y) (rule.well_formed y (undecided_is_published (h.stage y) u)) r.node
         ((covered r.node there.0 there.1).1 y t u drew lt) r.field;
     changes = λ a among. absurd (none_among e can.no_changes a among);
     fresh = λ g f is. absurd (no_fresh e can.no_fresh g is);
@@ -141,6 +141,7 @@ module _ (h : History) (rule : Rule h) (p s : ℕ) (e : Exchange) (can : CanRead
     in_use = λ n is. is;
     looked = looked_stays h h' (λ t n. λ i. same_at t i n Version) (λ x p. (p, refl)) (λ x p u. u)
         (λ x old new p. refl) (λ t x drew. (rule.drawn x t drew).0) (λ t x lt drew. drew);
+    last = refl;
     owner = λ x. refl;
     times = λ x p. refl;
     cleared = λ x c le is. is;
@@ -171,11 +172,11 @@ module _ (h : History) (rule : Rule h) (p s : ℕ) (e : Exchange) (can : CanRead
     plain_is = λ n f not_spare. rule.plain_is n f not_spare ∙ sym (λ i. same_now i n f);
     refers = rule.refers;
     unused = λ n not_used. subst (λ (c : Cells). IsOdd (c n Version)) (sym same_now) (rule.unused n not_used);
-    shaped = rule.shaped;
+    well_formed = rule.well_formed;
     fresh = λ x g u is. subst (λ (c : Cells). IsReady c h.plain h.slot g) (sym same_now) (rule.fresh x g u is);
     apart = rule.apart;
     saw = λ x u. subst (λ (at : ℕ → Cells). Saw at (h.published_at x) (h.op x)) (sym same_moments) (rule.saw x u);
-    told = λ x w is. cause_stays h h' grows x w (aborted_is_published (h.stage x) w is) (rule.told x w is);
+    caused = λ x w is. cause_stays h h' grows x w (aborted_is_published (h.stage x) w is) (rule.caused x w is);
     uncleared = rule.uncleared;
     running = rule.running;
   }

@@ -28,10 +28,10 @@ module _ (h : History) (rule : Rule h) where
   pub notes_serve : NotesServe h
   notes_serve = record {
     draw = λ x published held. record { published = published; held = λ a u among. (held a among).1 u };
-    publish = λ x e b is_new shaped saw fresh apart. record {
+    publish = λ x e b is_new well_formed saw fresh apart. record {
       is_new = is_new;
       past = saw.0;
-      shaped = shaped;
+      well_formed = well_formed;
       saw = saw.1;
       fresh = fresh;
       apart = apart;
@@ -59,6 +59,7 @@ module _ (h : History) (rule : Rule h) where
         omega (arith, lt, seen.1, versions_never_fall h.opening h.clock h.item rule.run b h.clock n seen.0),
       );
     };
+    out_of_stamps = λ x u at_end. record { undecided = u; cause = at_end };
     locked_node = λ x n v pass s u covers other drew rival. record {
       undecided = u;
       cause = (v, covers, other, rival_before_tells h rule n pass (h.published_at x) s (rule.drawn x s drew).1 rival);

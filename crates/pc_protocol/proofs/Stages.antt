@@ -1,6 +1,6 @@
 -- Stages, slots and the numbers of exchanges: what excludes what.
 use Rattle.std.proofs.Common.{◌≡◌, ℕ, Option, Some, None, refl, sym, ◌∙◌, subst}
-use Rattle.pc_protocol.specs.Histories.{Drawer, for_exchange, for_read, Cause, Stage, absent, undecided, committed, aborted}
+use Rattle.pc_protocol.specs.Histories.{Purpose, for_exchange, for_read, Cause, Stage, absent, undecided, committed, aborted}
 use Rattle.pc_protocol.specs.Histories.{Slot, free, spare, used, IsPublished, IsUndecided, IsDecided, value_by, IsFree}
 use Rattle.pc_protocol.specs.Histories.{IsSpare, IsUsed}
 
@@ -73,10 +73,10 @@ undecided_value (committed s) old new u = absurd u
 undecided_value (aborted cause) old new u = refl
 
 -- a number was drawn for one thing
-pub one_drawer : (d : Drawer) (x y : ℕ) → d ≡ for_exchange x → d ≡ for_exchange y → x ≡ y
-one_drawer d x y is_x is_y = let same : for_exchange x ≡ for_exchange y = sym is_x ∙ is_y in cc
+pub one_purpose : (d : Purpose) (x y : ℕ) → d ≡ for_exchange x → d ≡ for_exchange y → x ≡ y
+one_purpose d x y is_x is_y = let same : for_exchange x ≡ for_exchange y = sym is_x ∙ is_y in cc
 
-pub no_read : (d : Drawer) (x p : ℕ) → d ≡ for_exchange x → d ≡ for_read p → ⊥
+pub no_read : (d : Purpose) (x p : ℕ) → d ≡ for_exchange x → d ≡ for_read p → ⊥
 no_read d x p is_x is_p = let same : for_exchange x ≡ for_read p = sym is_x ∙ is_p in cc
 
 pub spare_not_used : (s : Slot) → IsSpare s → IsUsed s → ⊥

@@ -46,6 +46,7 @@ module _ (h : History) (rule : Rule h) (n : ℕ) (f : Field) (r : Option ℕ) (c
     in_use = λ m is. is;
     looked = looked_stays h (refer h n f r) (λ t m. refl) (λ x p. (p, refl)) (λ x p u. u)
         (λ x old new p. refl) (λ t x drew. (rule.drawn x t drew).0) (λ t x lt drew. drew);
+    last = refl;
     owner = λ y. refl;
     times = λ y p. refl;
     cleared = λ y c le is. is;
@@ -67,12 +68,12 @@ module _ (h : History) (rule : Rule h) (n : ℕ) (f : Field) (r : Option ℕ) (c
       plain_is = rule.plain_is;
       refers = refers_still;
       unused = rule.unused;
-      shaped = rule.shaped;
+      well_formed = rule.well_formed;
       fresh = rule.fresh;
       apart = rule.apart;
       saw = rule.saw;
-      told = λ y w is. cause_stays h (refer h n f r) refer_grows y w (aborted_is_published (h.stage y) w is)
-          (rule.told y w is);
+      caused = λ y w is. cause_stays h (refer h n f r) refer_grows y w (aborted_is_published (h.stage y) w is)
+          (rule.caused y w is);
       uncleared = λ m g y is. ⊎_elim (λ here. can.uncleared y here.2) (λ other. rule.uncleared m g y other.1)
           (from_word_updated h.reference n f r (λ (o : Option ℕ). o ≡ Some y) m g is);
       running = rule.running;
@@ -100,6 +101,7 @@ module _ (h : History) (rule : Rule h) (n : ℕ) (f : Field) (v : ℕ) (can : Ca
     in_use = λ m is. is;
     looked = looked_stays h (fill h n f v) (λ t m. refl) (λ x p. (p, refl)) (λ x p u. u)
         (λ x old new p. refl) (λ t x drew. (rule.drawn x t drew).0) (λ t x lt drew. drew);
+    last = refl;
     owner = λ y. refl;
     times = λ y p. refl;
     cleared = λ y c le is. is;
@@ -123,7 +125,7 @@ module _ (h : History) (rule : Rule h) (n : ℕ) (f : Field) (v : ℕ) (can : Ca
           refers_stays h.stage h.stage h.op h.op h.plain (fill h n f v).plain h.slot h.slot m g x old.published refl
           (λ old' new. refl) (other_node m (not_here m (used_not_spare (h.slot m) old.in_use)) g) (λ used. used) old;
       unused = rule.unused;
-      shaped = rule.shaped;
+      well_formed = rule.well_formed;
       fresh = λ x k u is. let old : IsReady (cells_now h) h.plain h.slot k = rule.fresh x k u is in record {
         is_spare = old.is_spare;
         version = old.version;
@@ -131,8 +133,8 @@ module _ (h : History) (rule : Rule h) (n : ℕ) (f : Field) (v : ℕ) (can : Ca
       };
       apart = rule.apart;
       saw = rule.saw;
-      told = λ y w is. cause_stays h (fill h n f v) fill_grows y w (aborted_is_published (h.stage y) w is)
-          (rule.told y w is);
+      caused = λ y w is. cause_stays h (fill h n f v) fill_grows y w (aborted_is_published (h.stage y) w is)
+          (rule.caused y w is);
       uncleared = rule.uncleared;
       running = rule.running;
     };
@@ -161,6 +163,7 @@ module _ (h : History) (rule : Rule h) (n : ℕ) (is_free : IsFree (h.slot n)) w
     in_use = still_used;
     looked = looked_stays h (take_slot h n) (λ t m. refl) (λ x p. (p, refl)) (λ x p u. u)
         (λ x old new p. refl) (λ t x drew. (rule.drawn x t drew).0) (λ t x lt drew. drew);
+    last = refl;
     owner = λ y. refl;
     times = λ y p. refl;
     cleared = λ y c le is. is;
@@ -184,7 +187,7 @@ module _ (h : History) (rule : Rule h) (n : ℕ) (is_free : IsFree (h.slot n)) w
           refers_stays h.stage h.stage h.op h.op h.plain h.plain h.slot (take_slot h n).slot m g x old.published refl
           (λ old' new. refl) refl (still_used m) old;
       unused = λ m not_used. rule.unused m (λ used. not_used (still_used m used));
-      shaped = rule.shaped;
+      well_formed = rule.well_formed;
       fresh = λ x k u is. let old : IsReady (cells_now h) h.plain h.slot k = rule.fresh x k u is in record {
         is_spare = still_spare k.node old.is_spare;
         version = old.version;
@@ -192,8 +195,8 @@ module _ (h : History) (rule : Rule h) (n : ℕ) (is_free : IsFree (h.slot n)) w
       };
       apart = rule.apart;
       saw = rule.saw;
-      told = λ y w is. cause_stays h (take_slot h n) take_slot_grows y w (aborted_is_published (h.stage y) w is)
-          (rule.told y w is);
+      caused = λ y w is. cause_stays h (take_slot h n) take_slot_grows y w (aborted_is_published (h.stage y) w is)
+          (rule.caused y w is);
       uncleared = rule.uncleared;
       running = rule.running;
     };
@@ -214,6 +217,7 @@ module _ (h : History) (rule : Rule h) (x : ℕ) (can : CanClear h x) where
     in_use = λ m is. is;
     looked = looked_stays h (clear h x) (λ t m. refl) (λ y p. (p, refl)) (λ y p u. u)
         (λ y old new p. refl) (λ t y drew. (rule.drawn y t drew).0) (λ t y lt drew. drew);
+    last = refl;
     owner = λ y. refl;
     times = λ y p. refl;
     cleared = λ y c le is. on_updated h.cleared_at x (Some h.clock) (IsFrom c) y (λ same. le) (λ ne. is);
@@ -235,12 +239,12 @@ module _ (h : History) (rule : Rule h) (x : ℕ) (can : CanClear h x) where
       plain_is = rule.plain_is;
       refers = rule.refers;
       unused = rule.unused;
-      shaped = rule.shaped;
+      well_formed = rule.well_formed;
       fresh = rule.fresh;
       apart = rule.apart;
       saw = rule.saw;
-      told = λ y w is. cause_stays h (clear h x) clear_grows y w (aborted_is_published (h.stage y) w is)
-          (rule.told y w is);
+      caused = λ y w is. cause_stays h (clear h x) clear_grows y w (aborted_is_published (h.stage y) w is)
+          (rule.caused y w is);
       uncleared = λ m g y is. on_updated h.cleared_at x (Some h.clock) (λ (o : Option ℕ). o ≡ None) y
           (λ same. absurd (can.no_words m g (is ∙ ap Some same))) (λ ne. rule.uncleared m g y is);
       running = λ y not_decided. on_updated h.cleared_at x (Some h.clock) (λ (o : Option ℕ). o ≡ None) y

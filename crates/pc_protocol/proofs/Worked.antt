@@ -5,9 +5,9 @@ use Rattle.std.proofs.Common.{◌≡◌, ℕ, ◌%◌, ◌≤◌, inl, inr, ⊎_
 use Rattle.std.proofs.Common.{ap, ◌∙◌, subst, arith}
 use Rattle.pc_model.specs.declared.cell.Field.{Field}
 use Rattle.pc_model.specs.declared.cell.Field.TheVariants.{Version, Key, Value, Left, Right, Parent, Height, Spare}
-use Rattle.pc_model.specs.Exchanges.{Visited, Seen, Changed, FreshNode, Exchange}
+use Rattle.pc_model.specs.Exchanges.{Visited, Seen, Changed, FreshNode, Exchange, Stands}
 use Rattle.pc_model.specs.Linked.{opening_cells}
-use Rattle.pc_history.specs.Footprints.{IsAmong, RaisesVersionOf, IsShaped}
+use Rattle.pc_history.specs.Footprints.{IsAmong, RaisesVersionOf, IsWellFormed}
 use Rattle.pc_history.specs.WorldRuns.{run_of, IsListOf}
 use Rattle.pc_history.proofs.Updates.{from_word_updated}
 use Rattle.pc_protocol.specs.Histories.{for_exchange, changed, History, moments, cells_now, IsUndecided, IsUsed}
@@ -27,7 +27,7 @@ use Rattle.pc_protocol.proofs.Aborts.{abort_keeps}
 use Rattle.pc_protocol.proofs.Drawn.{passed_version}
 use Rattle.pc_protocol.proofs.Protocol.{rule_tells}
 
-abbrev leaf_fields : Field → ℕ
+abbrev pub leaf_fields : Field → ℕ
 leaf_fields Version = 2
 leaf_fields Key = 5
 leaf_fields Value = 50
@@ -37,16 +37,16 @@ leaf_fields Parent = 0
 leaf_fields Height = 0
 leaf_fields Spare = 0
 
-abbrev raise : Changed
+abbrev pub raise : Changed
 raise = record { node = 1; field = Version; old = 0; new = 2 }
 
-abbrev link : Changed
+abbrev pub link : Changed
 link = record { node = 1; field = Left; old = 0; new = 2 }
 
-abbrev leaf : FreshNode
+abbrev pub leaf : FreshNode
 leaf = record { node = 2; fields = leaf_fields }
 
-abbrev hang : Exchange
+abbrev pub hang : Exchange
 hang = record {
   visits = record { node = 1; version = 0 } ∷ [];
   reads = record { node = 1; field = Left; number = 0 } ∷ [];
@@ -56,37 +56,37 @@ hang = record {
 
 -- The states
 
-abbrev at_opening : History
-at_opening = opened (opening_cells 0) 1 (λ x. x) opening_slots
+abbrev pub at_opening : History
+at_opening = opened (opening_cells 0) 1 17179869183 (λ x. x) opening_slots
 
-abbrev taken : History
+abbrev pub taken : History
 taken = take_slot at_opening 2
 
-abbrev filled : History
+abbrev pub filled : History
 filled = fill (fill (fill taken 2 Version 2) 2 Key 5) 2 Value 50
 
-abbrev published : History
+abbrev pub published : History
 published = publish filled 7 hang 1
 
-abbrev referred : History
+abbrev pub referred : History
 referred = refer (refer published 1 Version (Some 7)) 1 Left (Some 7)
 
-abbrev drawn : History
+abbrev pub drawn : History
 drawn = draw referred (for_exchange 7)
 
-abbrev done : History
+abbrev pub done : History
 done = commit drawn 7 1
 
-abbrev cleaned : History
+abbrev pub cleaned : History
 cleaned = refer (refer done 1 Version None) 1 Left None
 
-abbrev cleared : History
+abbrev pub cleared : History
 cleared = clear cleaned 7
 
 -- The rule in each of them
 
 opening_rule : Rule at_opening
-opening_rule = rule_holds_at_openings.usual 0 1 (λ x. x) refl
+opening_rule = rule_holds_at_openings.usual 0 1 17179869183 (λ x. x) refl
 
 taken_rule : Rule taken
 taken_rule = (take_slot_keeps at_opening opening_rule 2 tt).rule
@@ -114,8 +114,8 @@ at_root a among = ⊎_elim
 is_leaf : (g : FreshNode) → hang.fresh ≡ Some g → leaf ≡ g
 is_leaf g is = some_same leaf g is
 
-hang_shaped : IsShaped hang
-hang_shaped = record {
+hang_well_formed : IsWellFormed hang
+hang_well_formed = record {
   once = (
     (λ b among is. ⊎_elim
         (λ e. let clash : ◌≡◌ {A = Field} Left Version = sym (ap (λ (x : Changed). x.field) e) ∙ is.1 in cc)
@@ -171,7 +171,7 @@ published_rule : Rule published
 published_rule = (publish_keeps filled filled_rule 7 hang 1 (record {
   is_new = refl;
   past = omega arith;
-  shaped = hang_shaped;
+  well_formed = hang_well_formed;
   saw = hang_saw;
   fresh = λ g is. subst (IsReady (cells_now filled) filled.plain filled.slot) (is_leaf g is) (record {
     is_spare = tt;
@@ -274,7 +274,7 @@ no_reference n f is = ⊎_elim
     (from_word_updated done.reference 1 Version None (λ (o : Option ℕ). o ≡ Some 7) n f not_left.1))
     (from_word_updated (refer done 1 Version None).reference 1 Left None (λ (o : Option ℕ). o ≡ Some 7) n f is)
 
-cleared_rule : Rule cleared
+pub cleared_rule : Rule cleared
 cleared_rule = (clear_keeps cleaned cleaned_rule 7 (record { decided = tt; no_words = no_reference })).rule
 
 -- What came of it
@@ -302,10 +302,10 @@ is_world = (rule_tells cleared cleared_rule).world 2
 
 -- An exchange that visited the sentinel at its old version
 
-abbrev stale : Exchange
+abbrev pub stale : Exchange
 stale = record { visits = record { node = 1; version = 0 } ∷ []; reads = []; changes = []; fresh = None }
 
-abbrev late : History
+abbrev pub late : History
 late = draw (publish cleared 8 stale 2) (for_exchange 8)
 
 late_rule : Rule late
@@ -313,7 +313,7 @@ late_rule =
     let one : Rule (publish cleared 8 stale 2) = (publish_keeps cleared cleared_rule 8 stale 2 (record {
       is_new = refl;
       past = omega arith;
-      shaped = record {
+      well_formed = record {
         once = tt;
         raises = λ a among. absurd among;
         not_fresh = λ a g among is. absurd among;
@@ -356,3 +356,33 @@ failed_rule = (abort_keeps late late_rule 8 (changed 1) (record {
 -- a history whose run lacks what took effect isn't one of the rule
 lost_exchange_is_refused : Rule (record cleared { item = λ t. None }) → ⊥
 lost_exchange_is_refused rule = none_not_some hang (rule.standing 7 1 refl).1
+
+-- Histories that the rule refuses
+
+-- an exchange took effect though what it visited had changed
+stale_commit_is_refused : Rule (commit late 8 2) → ⊥
+stale_commit_is_refused rule =
+    let stands : Stands stale (moments (commit late 8 2) 2) = rule.run.stands 2 in
+    let version : ◌≡◌ {A = ℕ} 2 0 = stands.visits.0.0 in absurd (omega (arith, version))
+
+-- a stamp was drawn for an exchange before its words held its reference
+early_draw_is_refused : Rule (draw published (for_exchange 7)) → ⊥
+early_draw_is_refused rule = none_not_some 7 (rule.held 7 1 raise tt (omega arith, refl) (inl refl))
+
+-- a word has the reference of an exchange that doesn't change it
+foreign_reference_is_refused : Rule (refer published 1 Key (Some 7)) → ⊥
+foreign_reference_is_refused rule =
+    let there : Refers published.stage published.op published.plain published.slot 1 Key 7 = rule.refers 1 Key 7 refl in
+    not_key there.change there.among there.is_of.1
+  where
+    not_key : (a : Changed) → IsAmong a hang.changes → a.field ≡ Key → ⊥
+    not_key a among field = ⊎_elim
+        (λ e. let clash : ◌≡◌ {A = Field} Version Key = sym (ap (λ (x : Changed). x.field) e) ∙ field in cc)
+        (λ later. ⊎_elim
+        (λ e. let clash : ◌≡◌ {A = Field} Left Key = sym (ap (λ (x : Changed). x.field) e) ∙ field in cc)
+        (λ none'. none') later)
+        among
+
+-- the reference of an exchange that isn't decided was taken out after it drew its stamp
+lost_reference_is_refused : Rule (refer drawn 1 Left None) → ⊥
+lost_reference_is_refused rule = none_not_some 7 (rule.held 7 1 link tt (omega arith, refl) (inr (inl refl)))

@@ -6,7 +6,7 @@ use Rattle.pc_model.specs.declared.cell.Field.{Field}
 use Rattle.pc_model.specs.declared.cell.Field.TheVariants.{Version, Value}
 use Rattle.pc_model.specs.Cells.{Cells}
 use Rattle.pc_model.specs.Exchanges.{Visited, Changed, Exchange}
-use Rattle.pc_history.specs.Footprints.{IsAmong, LeavesWord, RaisesVersionOf, IsShaped}
+use Rattle.pc_history.specs.Footprints.{IsAmong, LeavesWord, RaisesVersionOf, IsWellFormed}
 use Rattle.pc_history.specs.WorldRuns.{run_of}
 use Rattle.pc_protocol.specs.Histories.{for_exchange, History, moments, IsUndecided, used}
 use Rattle.pc_protocol.specs.Seeing.{ChangesVersion}
@@ -62,8 +62,8 @@ each_visit n P of_root of_own v among = ⊎_elim
     (λ later. ⊎_elim (λ e. subst P (sym e) of_own) (λ none'. absurd none') later)
     among
 
-change_shaped : (n : ℕ) → IsShaped (change n)
-change_shaped n = record {
+change_well_formed : (n : ℕ) → IsWellFormed (change n)
+change_well_formed n = record {
   once = (
     (λ b among is. ⊎_elim
         (λ e. let clash : ◌≡◌ {A = Field} Version Value = sym (ap (λ (x : Changed). x.field) e) ∙ is.1 in cc)
@@ -91,7 +91,7 @@ abbrev zeros : Cells
 zeros = λ n f. 0
 
 abbrev start : History
-start = opened zeros 1 (λ x. x) (λ n. used)
+start = opened zeros 1 17179869183 (λ x. x) (λ n. used)
 
 abbrev two_published : History
 two_published = publish (publish start 5 (change 2) 1) 6 (change 3) 1
@@ -114,13 +114,13 @@ both_done = commit later_done 5 1
 -- The rule in each of them
 
 start_rule : Rule start
-start_rule = rule_at_opening zeros 1 (λ x. x) (λ n. used) (λ n not_used. absurd (not_used tt))
+start_rule = rule_at_opening zeros 1 17179869183 (λ x. x) (λ n. used) (λ n not_used. absurd (not_used tt))
 
 one_rule : Rule (publish start 5 (change 2) 1)
 one_rule = (publish_keeps start start_rule 5 (change 2) 1 (record {
   is_new = refl;
   past = omega arith;
-  shaped = change_shaped 2;
+  well_formed = change_well_formed 2;
   saw = record {
     visits = each_visit 2 (λ (v : Visited). (v.version % 2 ≡ 0) × (v.version ≤ moments start 1 v.node Version))
         (refl, omega arith) (refl, omega arith);
@@ -134,7 +134,7 @@ two_rule : Rule two_published
 two_rule = (publish_keeps (publish start 5 (change 2) 1) one_rule 6 (change 3) 1 (record {
   is_new = refl;
   past = omega arith;
-  shaped = change_shaped 3;
+  well_formed = change_well_formed 3;
   saw = record {
     visits = each_visit 3 (λ (v : Visited). (v.version % 2 ≡ 0)
         × (v.version ≤ moments (publish start 5 (change 2) 1) 1 v.node Version)) (refl, omega arith)

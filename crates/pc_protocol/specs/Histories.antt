@@ -7,14 +7,15 @@ use Rattle.pc_model.specs.Exchanges.{Exchange}
 use Rattle.pc_history.specs.Runs.{Items, cells_at}
 
 -- for what a stamp was drawn: for an exchange, or for a read of a pass
-pub data Drawer : Type 0 where
-  for_exchange : ℕ → Drawer
-  for_read : ℕ → Drawer
+pub data Purpose : Type 0 where
+  for_exchange : ℕ → Purpose
+  for_read : ℕ → Purpose
 
--- why an exchange failed: it was withdrawn; a node's version is above the one that it covers; another pass
--- has an exchange with that node's version
+-- why an exchange failed: its owner withdrew it; another did, at the clock's end; a node's version is above the one
+-- that it covers; another pass has an exchange with that node's version
 pub data Cause : Type 0 where
   withdrawn : Cause
+  ended : Cause
   changed : ℕ → Cause
   locked : ℕ → ℕ → Cause
 
@@ -35,12 +36,13 @@ pub data Slot : Type 0 where
 pub record History : Type 0 where
   -- the cells that the board opened with
   pub opening : Cells
-  -- the next stamp
+  -- the next stamp, and the last one
   pub clock : ℕ
+  pub last : ℕ
   -- the run
   pub item : Items
   -- for what each stamp below the clock was drawn
-  pub drawn_for : ℕ → Drawer
+  pub drawn_for : ℕ → Purpose
   -- each exchange of each pass has one number, for ever: its pass, its stage, what it is, and the clock before it was
   -- published
   pub owner : ℕ → ℕ
@@ -102,9 +104,9 @@ IsUsed spare = ⊥
 IsUsed used = Unit {0}
 
 -- the stamp was drawn for the exchange; an exchange may have many, and it doesn't matter who drew one
-abbrev pub Drew : ℕ → (ℕ → Drawer) → ℕ → ℕ → Type 0
+abbrev pub Drew : ℕ → (ℕ → Purpose) → ℕ → ℕ → Type 0
 Drew clock drawn_for t x = (t < clock) × (drawn_for t ≡ for_exchange x)
 
 -- the stamp was drawn for a read
-abbrev pub IsForRead : Drawer → Type 0
-IsForRead drawer = (p : ℕ) × (drawer ≡ for_read p)
+abbrev pub IsForRead : Purpose → Type 0
+IsForRead purpose = (p : ℕ) × (purpose ≡ for_read p)

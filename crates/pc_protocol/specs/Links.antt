@@ -48,8 +48,8 @@ pub record StepsKeepLinks (slots : ℕ) (h : History) : Type 0 where
   pub clears : (x : ℕ) → CanClear h x → LinksRule slots (clear h x)
 
 pub record LinksLaw : Type 0 where
-  pub opening : (slots version start : ℕ) (owner : ℕ → ℕ) → IsEven version
-      → LinksRule slots (opened (opening_cells version) start owner opening_slots)
+  pub opening : (slots version start last : ℕ) (owner : ℕ → ℕ) → IsEven version
+      → LinksRule slots (opened (opening_cells version) start last owner opening_slots)
   pub in_use : (slots : ℕ) (h : History) → Rule h → LinksRule slots h → IsLinked slots (cells_now h) → LinksAreInUse h
   pub steps : (slots : ℕ) (h : History) → Rule h → LinksRule slots h → IsLinked slots (cells_now h)
       → StepsKeepLinks slots h

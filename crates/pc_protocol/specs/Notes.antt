@@ -43,6 +43,8 @@ IsCleared None = ⊥
 IsCleared (Some c) = Unit {0}
 
 pub data Note : Type 0 where
+  -- the clock has come to this number
+  clock_was : ℕ → Note
   -- the node had at least this version at a moment
   visited : ℕ → ℕ → ℕ → Note
   -- after a visit at this version the word had this number
@@ -69,6 +71,7 @@ pub data Note : Type 0 where
   cleared : ℕ → Note
 
 abbrev pub IsTrueNote : History → Note → Type 0
+IsTrueNote h (clock_was c) = c ≤ h.clock
 IsTrueNote h (visited n v b) = (b ≤ h.clock) × (v ≤ moments h b n Version)
 IsTrueNote h (read_word n v f x b) = (b ≤ h.clock) × SawWord (moments h) b n v f x
 IsTrueNote h (saw b e) = (b ≤ h.clock) × Saw (moments h) b e

@@ -1,4 +1,5 @@
--- The history that a board opens with, where no exchange is published: of its cells, its clock and its slots.
+-- The history that a board opens with, where no exchange is published: of its cells, its first and last stamp, the owners
+-- of exchanges, and its slots.
 use Rattle.std.specs.Prelude.{ℕ, ◌==◌, if◌then◌else◌, [], None}
 use Rattle.pc_model.specs.Cells.{Cells}
 use Rattle.pc_model.specs.Exchanges.{Exchange}
@@ -7,10 +8,11 @@ use Rattle.pc_protocol.specs.Histories.{for_read, absent, Slot, free, used, Hist
 abbrev pub no_exchange : Exchange
 no_exchange = record { visits = []; reads = []; changes = []; fresh = None }
 
-abbrev pub opened : Cells → ℕ → (ℕ → ℕ) → (ℕ → Slot) → History
-opened cells start owner slots = record {
+abbrev pub opened : Cells → ℕ → ℕ → (ℕ → ℕ) → (ℕ → Slot) → History
+opened cells start end owner slots = record {
   opening = cells;
   clock = start;
+  last = end;
   item = λ t. None;
   drawn_for = λ t. for_read 0;
   owner = owner;

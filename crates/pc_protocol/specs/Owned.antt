@@ -4,7 +4,7 @@ use Rattle.std.specs.Prelude.{◌≡◌, ◌≢◌, ℕ, ◌<◌, Option, Some, 
 use Rattle.pc_model.specs.declared.cell.Field.{Field}
 use Rattle.pc_model.specs.declared.cell.Field.TheVariants.{Version}
 use Rattle.pc_model.specs.Exchanges.{FreshNode, Exchange}
-use Rattle.pc_protocol.specs.Histories.{Drawer, for_read, Cause, History, cells_now, IsFree, IsSpare}
+use Rattle.pc_protocol.specs.Histories.{Purpose, for_read, Cause, History, cells_now, IsFree, IsSpare}
 use Rattle.pc_protocol.specs.Steps.{draw, publish, commit, CanCommit, abort, take_read, CanRead, refer}
 use Rattle.pc_protocol.specs.Steps.{fill, take_slot, clear}
 
@@ -31,7 +31,7 @@ abbrev pub MakesNot : Exchange → ℕ → Type 0
 MakesNot e n = (g : FreshNode) → e.fresh ≡ Some g → n ≢ g.node
 
 pub record StepsKeepOwned (h : History) : Type 0 where
-  pub draws : (d : Drawer) → KeepsOwned h (draw h d)
+  pub draws : (d : Purpose) → KeepsOwned h (draw h d)
   pub publishes : (x : ℕ) (e : Exchange) (b : ℕ) → KeepsOwned h (publish h x e b)
   pub aborts : (x : ℕ) (cause : Cause) → KeepsOwned h (abort h x cause)
   pub refers : (n : ℕ) (f : Field) (r : Option ℕ) → KeepsOwned h (refer h n f r)

@@ -20,10 +20,10 @@ use Rattle.pc_protocol.specs.Openings.{opened, opening_slots}
 
 -- the rule holds where a board opens, also of the opening cells at any even version
 pub record RuleHoldsAtOpenings : Type 0 where
-  pub any : (cells : Cells) (start : ℕ) (owner : ℕ → ℕ) (slots : ℕ → Slot)
-      → ((n : ℕ) → (IsUsed (slots n) → ⊥) → IsOdd (cells n Version)) → Rule (opened cells start owner slots)
-  pub usual : (version start : ℕ) (owner : ℕ → ℕ) → IsEven version
-      → Rule (opened (opening_cells version) start owner opening_slots)
+  pub any : (cells : Cells) (start last : ℕ) (owner : ℕ → ℕ) (slots : ℕ → Slot)
+      → ((n : ℕ) → (IsUsed (slots n) → ⊥) → IsOdd (cells n Version)) → Rule (opened cells start last owner slots)
+  pub usual : (version start last : ℕ) (owner : ℕ → ℕ) → IsEven version
+      → Rule (opened (opening_cells version) start last owner opening_slots)
 
 -- each step that may be made keeps the rule and every note
 pub record StepsKeepTheRule (h : History) : Type 0 where

@@ -4,18 +4,18 @@ use Rattle.pc_model.specs.declared.cell.Field.{Field}
 use Rattle.pc_model.specs.declared.cell.Field.TheVariants.{Version}
 use Rattle.pc_model.specs.Cells.{Cells, IsOdd}
 use Rattle.pc_model.specs.Exchanges.{Changed, FreshNode, Exchange}
-use Rattle.pc_history.specs.Footprints.{IsAmong, IsOfWord, HasChange, WritesMiss, IsShaped}
+use Rattle.pc_history.specs.Footprints.{IsAmong, IsOfWord, HasChange, WritesMiss, IsWellFormed}
 use Rattle.pc_history.specs.Runs.{OnItem, IsRun}
-use Rattle.pc_protocol.specs.Histories.{Drawer, for_exchange, Cause, withdrawn, changed, locked, Stage, committed, aborted}
+use Rattle.pc_protocol.specs.Histories.{Purpose, for_exchange, Cause, withdrawn, ended, changed, locked, Stage, committed, aborted}
 use Rattle.pc_protocol.specs.Histories.{Slot, History, moments, cells_now, IsPublished, IsUndecided, IsDecided, value_by}
 use Rattle.pc_protocol.specs.Histories.{IsSpare, IsUsed, Drew, IsForRead}
 use Rattle.pc_protocol.specs.Seeing.{Covers, Saw}
 
 -- what stands in the run at a stamp: a read, which changes nothing, at a stamp for one; or the exchange that took
 -- effect at this stamp, which was drawn for it
-abbrev pub IsTaken : Drawer → (ℕ → Stage) → (ℕ → Exchange) → ℕ → Exchange → Type 0
-IsTaken drawer stage op t e = (IsForRead drawer × (e.changes ≡ []) × (e.fresh ≡ None))
-    ⊎ ((x : ℕ) × (drawer ≡ for_exchange x) × (stage x ≡ committed t) × (e ≡ op x))
+abbrev pub IsTaken : Purpose → (ℕ → Stage) → (ℕ → Exchange) → ℕ → Exchange → Type 0
+IsTaken purpose stage op t e = (IsForRead purpose × (e.changes ≡ []) × (e.fresh ≡ None))
+    ⊎ ((x : ℕ) × (purpose ≡ for_exchange x) × (stage x ≡ committed t) × (e ≡ op x))
 
 -- a word with a reference: the exchange is published and changes the word, whose plain value is the number of
 -- that change by the exchange's stage; and the word is of a used node
@@ -54,10 +54,11 @@ pub record IsRival (owner : ℕ → ℕ) (stage : ℕ → Stage) (op : ℕ → E
 abbrev pub Rival : History → ℕ → ℕ → ℕ → Type 0
 Rival h = IsRival h.owner h.stage h.op h.cleared_at h.clock
 
--- why an exchange may fail: its owner withdraws; a node has a greater version than the one that it covers; or for a
+-- why an exchange may fail: its owner withdraws; the clock is at its last stamp or above; a node has a greater version than the one that it covers; or for a
 -- node of which it covers a version another pass is a rival since before it was published
 abbrev pub IsCause : History → ℕ → Cause → Type 0
 IsCause h x withdrawn = Unit {0}
+IsCause h x ended = h.last ≤ h.clock
 IsCause h x (changed n) = (v : ℕ) × Covers (h.op x) n v × (v < cells_now h n Version)
 IsCause h x (locked n pass) = (v : ℕ) × Covers (h.op x) n v × (pass ≢ h.owner x) × Rival h pass n (h.published_at x)
 
@@ -83,7 +84,7 @@ pub record Rule (h : History) : Type 0 where
   -- a slot that isn't used is marked
   pub unused : (n : ℕ) → (IsUsed (h.slot n) → ⊥) → IsOdd (cells_now h n Version)
   -- the form of exchanges
-  pub shaped : (x : ℕ) → IsPublished (h.stage x) → IsShaped (h.op x)
+  pub well_formed : (x : ℕ) → IsPublished (h.stage x) → IsWellFormed (h.op x)
   -- fresh nodes, and that no two exchanges have the same one
   pub fresh : (x : ℕ) (g : FreshNode) → IsUndecided (h.stage x) → (h.op x).fresh ≡ Some g
       → IsReady (cells_now h) h.plain h.slot g
@@ -92,7 +93,7 @@ pub record Rule (h : History) : Type 0 where
   -- what an exchange saw before it was published
   pub saw : (x : ℕ) → IsUndecided (h.stage x) → Saw (moments h) (h.published_at x) (h.op x)
   -- an exchange that failed has its cause
-  pub told : (x : ℕ) (cause : Cause) → h.stage x ≡ aborted cause → IsCause h x cause
+  pub caused : (x : ℕ) (cause : Cause) → h.stage x ≡ aborted cause → IsCause h x cause
   -- the clock after clearing is read once an exchange is decided and no word has its reference
   pub uncleared : (n : ℕ) (f : Field) (x : ℕ) → h.reference n f ≡ Some x → h.cleared_at x ≡ None
   pub running : (x : ℕ) → (IsDecided (h.stage x) → ⊥) → h.cleared_at x ≡ None

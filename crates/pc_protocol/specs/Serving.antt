@@ -2,11 +2,11 @@
 use Rattle.std.specs.Prelude.{◌≡◌, ◌≢◌, ℕ, ◌<◌, ◌≤◌, ◌⊎◌, [], Some, None}
 use Rattle.pc_model.specs.declared.cell.Field.TheVariants.{Version}
 use Rattle.pc_model.specs.Exchanges.{Visited, Changed, FreshNode, Exchange}
-use Rattle.pc_history.specs.Footprints.{IsAmong, IsOfWord, IsShaped}
-use Rattle.pc_protocol.specs.Histories.{Stage, absent, changed, locked, History, cells_now, IsPublished, IsUndecided, value_by}
+use Rattle.pc_history.specs.Footprints.{IsAmong, IsOfWord, IsWellFormed}
+use Rattle.pc_protocol.specs.Histories.{Stage, absent, ended, changed, locked, History, cells_now, IsPublished, IsUndecided, value_by}
 use Rattle.pc_protocol.specs.Seeing.{ChangesVersion, Covers}
 use Rattle.pc_protocol.specs.Rules.{IsReady}
-use Rattle.pc_protocol.specs.Notes.{Found, value, by, visited, saw, looked, held, drew, verdict, rival, IsTrueNote}
+use Rattle.pc_protocol.specs.Notes.{Found, value, by, clock_was, visited, saw, looked, held, drew, verdict, rival, IsTrueNote}
 use Rattle.pc_protocol.specs.Steps.{CanDraw, CanPublish, CanCommit, CanAbort, CanRead}
 use Rattle.pc_protocol.specs.Owned.{IsUnread}
 
@@ -25,7 +25,7 @@ pub record NotesServe (h : History) : Type 0 where
   pub draw : (x : ℕ) → IsPublished (h.stage x)
       → ((a : Changed) → IsAmong a (h.op x).changes → IsTrueNote h (held x a.node a.field))
       → CanDraw h x
-  pub publish : (x : ℕ) (e : Exchange) (b : ℕ) → h.stage x ≡ absent → IsShaped e → IsTrueNote h (saw b e)
+  pub publish : (x : ℕ) (e : Exchange) (b : ℕ) → h.stage x ≡ absent → IsWellFormed e → IsTrueNote h (saw b e)
       → ((g : FreshNode) → e.fresh ≡ Some g → IsReady (cells_now h) h.plain h.slot g)
       → ((y : ℕ) (g k : FreshNode) → IsUndecided (h.stage y) → e.fresh ≡ Some g → (h.op y).fresh ≡ Some k
       → g.node ≢ k.node) → CanPublish h x e b
@@ -40,6 +40,8 @@ pub record NotesServe (h : History) : Type 0 where
   pub changed_node : (x n v w b : ℕ) → IsUndecided (h.stage x) → Covers (h.op x) n v → IsTrueNote h (visited n w b)
       → v < w
       → CanAbort h x (changed n)
+  -- the clock has come to its last stamp
+  pub out_of_stamps : (x : ℕ) → IsUndecided (h.stage x) → IsTrueNote h (clock_was h.last) → CanAbort h x ended
   -- another pass was a rival at one of its stamps
   pub locked_node : (x n v pass s : ℕ) → IsUndecided (h.stage x) → Covers (h.op x) n v → pass ≢ h.owner x
       → IsTrueNote h (drew x s)

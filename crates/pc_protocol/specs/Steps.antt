@@ -4,9 +4,9 @@ use Rattle.pc_model.specs.declared.cell.Field.{Field}
 use Rattle.pc_model.specs.declared.cell.Field.TheVariants.{Version}
 use Rattle.pc_model.specs.Exchanges.{Visited, Changed, FreshNode, Exchange, with_changes}
 use Rattle.pc_history.specs.Updates.{updated, word_updated}
-use Rattle.pc_history.specs.Footprints.{IsAmong, IsOfWord, IsShaped}
+use Rattle.pc_history.specs.Footprints.{IsAmong, IsOfWord, IsWellFormed}
 use Rattle.pc_history.specs.Runs.{put_item}
-use Rattle.pc_protocol.specs.Histories.{Drawer, for_read, Cause, Stage, absent, undecided, committed, aborted}
+use Rattle.pc_protocol.specs.Histories.{Purpose, for_read, Cause, Stage, absent, undecided, committed, aborted}
 use Rattle.pc_protocol.specs.Histories.{Slot, spare, used, History, moments, cells_now, IsPublished, IsUndecided}
 use Rattle.pc_protocol.specs.Histories.{IsDecided, value_by, IsSpare, Drew}
 use Rattle.pc_protocol.specs.Seeing.{ChangesVersion, Saw}
@@ -20,8 +20,8 @@ pub record Keeps (h h' : History) : Type 0 where
 
 -- A stamp is drawn, for an exchange or for a read
 
-abbrev pub draw : History → Drawer → History
-draw h drawer = record h { clock = suc h.clock; drawn_for = updated h.drawn_for h.clock drawer }
+abbrev pub draw : History → Purpose → History
+draw h purpose = record h { clock = suc h.clock; drawn_for = updated h.drawn_for h.clock purpose }
 
 -- the exchange is published, and, where it isn't decided, has its reference in each of its words
 pub record CanDraw (h : History) (x : ℕ) : Type 0 where
@@ -41,7 +41,7 @@ publish h x e b = record h {
 pub record CanPublish (h : History) (x : ℕ) (e : Exchange) (b : ℕ) : Type 0 where
   pub is_new : h.stage x ≡ absent
   pub past : b ≤ h.clock
-  pub shaped : IsShaped e
+  pub well_formed : IsWellFormed e
   pub saw : Saw (moments h) b e
   pub fresh : (g : FreshNode) → e.fresh ≡ Some g → IsReady (cells_now h) h.plain h.slot g
   pub apart : (y : ℕ) (g k : FreshNode) → IsUndecided (h.stage y) → e.fresh ≡ Some g → (h.op y).fresh ≡ Some k
@@ -50,16 +50,16 @@ pub record CanPublish (h : History) (x : ℕ) (e : Exchange) (b : ℕ) : Type 0 
 -- An exchange takes effect at a stamp that was drawn for it
 
 -- the slot of the fresh node is used
-abbrev pub using : Option FreshNode → (ℕ → Slot) → ℕ → Slot
-using None slot = slot
-using (Some g) slot = updated slot g.node used
+abbrev pub slots_with : Option FreshNode → (ℕ → Slot) → ℕ → Slot
+slots_with None slot = slot
+slots_with (Some g) slot = updated slot g.node used
 
 abbrev pub commit : History → ℕ → ℕ → History
 commit h x s = record h {
   item = put_item h.item s (h.op x);
   stage = updated h.stage x (committed s);
   plain = with_changes (h.op x).changes h.plain;
-  slot = using (h.op x).fresh h.slot;
+  slot = slots_with (h.op x).fresh h.slot;
 }
 
 -- What was found is no greater than this version; a reference is of an exchange that is decided, so that its word is

@@ -1,14 +1,14 @@
 -- What loads tell: the notes that a pass may make of what it finds, each true at once.
-use Rattle.std.specs.Prelude.{◌≡◌, ℕ, ◌<◌, ◌≤◌, Option, Some, None}
+use Rattle.std.specs.Prelude.{◌≡◌, ℕ, suc, ◌<◌, ◌≤◌, Option, Some, None}
 use Rattle.pc_model.specs.declared.cell.Field.{Field}
 use Rattle.pc_model.specs.declared.cell.Field.TheVariants.{Version}
 use Rattle.pc_model.specs.Cells.{IsEven}
 use Rattle.pc_model.specs.Exchanges.{Visited, Seen, Changed, Exchange}
 use Rattle.pc_history.specs.Footprints.{IsAmong, IsOfWord}
-use Rattle.pc_protocol.specs.Histories.{for_exchange, aborted, locked, History, IsUndecided}
+use Rattle.pc_protocol.specs.Histories.{for_exchange, aborted, ended, changed, locked, History, IsUndecided}
 use Rattle.pc_protocol.specs.Histories.{IsDecided, IsSpare}
 use Rattle.pc_protocol.specs.Seeing.{ChangesVersion, Covers}
-use Rattle.pc_protocol.specs.Notes.{Found, value, by, visited, read_word, saw, looked, published, held, drew, verdict, rival, IsTrueNote}
+use Rattle.pc_protocol.specs.Notes.{Found, value, by, clock_was, visited, read_word, saw, looked, published, held, drew, verdict, rival, IsTrueNote}
 use Rattle.pc_protocol.specs.Steps.{draw, publish}
 
 -- what stands in a word: a number, where there is no reference, or a reference
@@ -36,7 +36,8 @@ pub record LoadsTell (h : History) : Type 0 where
   -- a look at a version word, for a stamp
   pub look : (s n : ℕ) → s < h.clock → (IsSpare (h.slot n) → ⊥)
       → IsTrueNote h (looked s n (found_in (h.reference n Version) (h.plain n Version)))
-  -- the clock, where every visit and every read is noted
+  -- the clock; and where every visit and every read is noted
+  pub time : IsTrueNote h (clock_was h.clock)
   pub clock : (e : Exchange) → IsNoted h e → IsTrueNote h (saw h.clock e)
   -- a draw
   pub stamp : (x : ℕ) → IsTrueNote (draw h (for_exchange x)) (drew x h.clock)
@@ -44,6 +45,12 @@ pub record LoadsTell (h : History) : Type 0 where
   pub publication : (x : ℕ) (e : Exchange) (b : ℕ) → IsTrueNote (publish h x e b) (published x e b)
   -- a status
   pub status : (x : ℕ) → IsDecided (h.stage x) → IsTrueNote h (verdict x (h.stage x))
+  -- the own status that says changed, where this version is at most each one of the node that the exchange covers: that
+  -- version is past
+  pub changed_told : (n x v : ℕ) → h.stage x ≡ aborted (changed n) → ((w : ℕ) → Covers (h.op x) n w → v ≤ w)
+      → IsTrueNote h (visited n (suc v) h.clock)
+  -- a status that another withdrew
+  pub ended_told : (x : ℕ) → h.stage x ≡ aborted ended → IsTrueNote h (clock_was h.last)
   -- a rival: its reference in a version word, or the exchange itself, not decided, or the status of the own one
   pub rival_reference : (n x c : ℕ) → c ≤ h.clock → h.reference n Version ≡ Some x
       → IsTrueNote h (rival (h.owner x) n c)
