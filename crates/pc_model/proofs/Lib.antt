@@ -22,6 +22,7 @@ pub mod Removal
 pub mod RemovalDebts
 pub mod Replaying
 pub mod Rotation
+pub mod SearchTreeLinks
 pub mod Sides
 pub mod Sizes
 pub mod SortedLists

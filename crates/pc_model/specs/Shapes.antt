@@ -4,6 +4,8 @@ use Rattle.pc_model.specs.Cells.{Cells, IsEven}
 use Rattle.pc_model.specs.Debts.{has}
 use Rattle.pc_model.specs.Exchanges.{Exchange, Stands, applied}
 use Rattle.pc_model.specs.Forms.{Form, IsSound, Fits}
+use Rattle.pc_model.specs.Trees.{Kind}
+use Rattle.pc_model.specs.TreeForms.{tree_form}
 use Rattle.pc_model.specs.Linked.{IsLinked, opening_cells}
 
 pub record ShapeLaws (form : Form) : Type 0 where
@@ -25,6 +27,10 @@ laws_from_linked form linked = record {
   leaves = λ slots e charged c fits sound stands. fits.leaves c sound stands;
   charges = λ slots e charged c k fits sound stands debt. fits.charges c k sound stands debt;
 }
+
+-- search trees of either kind have these laws
+abbrev pub TreesAreShapes : Type 0
+TreesAreShapes = (kind : Kind) → ShapeLaws (tree_form kind)
 
 -- cells are sound where they are linked, with no pairs, and no key is in debt
 abbrev pub loose_form : Form

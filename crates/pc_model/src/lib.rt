@@ -23,4 +23,4 @@ pub use laws::{
 pub use numbers::Numbers;
 pub use owed::{Owed, Owing, Settle};
 pub use shape::{Loose, Shape};
-pub use shape_laws::{loose_cells_are_linked, shapes_keep_their_laws};
+pub use shape_laws::{loose_cells_are_linked, search_trees_are_shapes, shapes_keep_their_laws};
