@@ -1,15 +1,17 @@
 -- What loads tell is true at once.
-use Rattle.std.proofs.Common.{◌≡◌, ℕ, ◌<◌, ◌≤◌, Option, Some, None, refl, sym, ap, ◌∙◌}
+use Rattle.std.proofs.Common.{◌≡◌, ℕ, suc, ◌<◌, ◌≤◌, Option, Some, None, refl, sym, ap, ◌∙◌}
 use Rattle.std.proofs.Common.{subst, arith, le_refl, le_of_lt}
 use Rattle.pc_model.specs.declared.cell.Field.{Field}
 use Rattle.pc_model.specs.declared.cell.Field.TheVariants.{Version}
 use Rattle.pc_model.specs.Cells.{IsEven}
-use Rattle.pc_model.specs.Exchanges.{Changed, Exchange}
-use Rattle.pc_history.specs.Footprints.{IsAmong, IsOfWord, LeavesWord}
+use Rattle.pc_model.specs.Exchanges.{Changed, FreshNode, Exchange, applied}
+use Rattle.pc_history.specs.Footprints.{IsAmong, IsOfWord, LeavesWord, IsWellFormed}
+use Rattle.pc_history.specs.Runs.{after}
 use Rattle.pc_history.proofs.Updates.{updated_here}
-use Rattle.pc_history.proofs.Footprints.{same_change}
-use Rattle.pc_history.proofs.Moments.{late_cells, versions_never_fall}
-use Rattle.pc_protocol.specs.Histories.{for_exchange, ended, changed, undecided, Stage, locked, History, moments, cells_now, IsPublished}
+use Rattle.pc_history.proofs.Footprints.{same_change, applied_change, applied_fresh}
+use Rattle.pc_history.proofs.Moments.{late_cells, versions_never_fall, same_version_same_node}
+use Rattle.pc_protocol.specs.Histories.{for_exchange, ended, changed, undecided, committed, Stage, locked, History, moments}
+use Rattle.pc_protocol.specs.Histories.{cells_now, IsPublished}
 use Rattle.pc_protocol.specs.Histories.{IsUndecided, value_by, IsSpare, Drew}
 use Rattle.pc_protocol.specs.Seeing.{ChangesVersion, Covers}
 use Rattle.pc_protocol.specs.Rules.{IsFrom, Refers, Rule}
@@ -17,6 +19,7 @@ use Rattle.pc_protocol.specs.Notes.{IsBy, IsBelowFound, visited, read_word, saw,
 use Rattle.pc_protocol.specs.Notes.{rival, IsTrueNote}
 use Rattle.pc_protocol.specs.Telling.{found_in, IsNoted, LoadsTell}
 use Rattle.pc_protocol.proofs.Stages.{undecided_value, undecided_is_published, decided_not_undecided, used_not_spare}
+use Rattle.pc_protocol.proofs.Stages.{committed_is_published}
 use Rattle.pc_protocol.proofs.Notes.{NeverFalls, word_later}
 use Rattle.pc_protocol.proofs.Drawn.{changed_version_grows}
 
@@ -39,6 +42,53 @@ module _ (h : History) (rule : Rule h) where
           ∙ sym (rule.plain_is n f not_spare)),
     ),
   )
+
+  -- a moment tells of a node's words, at the version that the node has then
+  moment_tells : (t n : ℕ) (f : Field) → t ≤ h.clock
+      → IsTrueNote h (read_word n (moments h t n Version) f (moments h t n f) t)
+  moment_tells t n f le = (
+    le,
+    (
+      le_refl (moments h t n Version),
+      (λ u later same. same_version_same_node h.opening h.clock h.item rule.run t u n later same f),
+    ),
+  )
+
+  -- what an exchange that took effect left
+  module _ (x s : ℕ) (is : h.stage x ≡ committed s) where
+    after_it : moments h (suc s) ≡ applied (h.op x) (moments h s)
+    after_it = ap (λ (o : Option Exchange). after o (moments h s)) (rule.standing x s is).1
+
+    won_shape : IsWellFormed (h.op x)
+    won_shape = rule.well_formed x (committed_is_published (h.stage x) s is)
+
+    won_change : (n : ℕ) (f : Field) (a : Changed) → IsAmong a (h.op x).changes → IsOfWord n f a
+        → moments h (suc s) n f ≡ a.new
+    won_change n f a among is_of = (λ i. after_it i n f)
+        ∙ (λ i. applied (h.op x) (moments h s) (sym is_of.0 i) (sym is_of.1 i))
+        ∙ applied_change (h.op x) won_shape (moments h s) a among
+
+    won_version_tells : (n : ℕ) (a : Changed) → IsAmong a (h.op x).changes → IsOfWord n Version a
+        → IsTrueNote h (visited n a.new (suc s))
+    won_version_tells n a among is_of =
+        let version : moments h (suc s) n Version ≡ a.new = won_change n Version a among is_of in
+        ((rule.standing x s is).0.0, omega (arith, version))
+
+    won_word_tells : (n : ℕ) (f : Field) (a b : Changed) → IsAmong a (h.op x).changes → IsOfWord n Version a
+        → IsAmong b (h.op x).changes → IsOfWord n f b → IsTrueNote h (read_word n a.new f b.new (suc s))
+    won_word_tells n f a b in_a is_a in_b is_b =
+        subst (λ (v : ℕ). IsTrueNote h (read_word n v f b.new (suc s))) (won_change n Version a in_a is_a)
+        (subst (λ (w : ℕ). IsTrueNote h (read_word n (moments h (suc s) n Version) f w (suc s)))
+        (won_change n f b in_b is_b) (moment_tells (suc s) n f (rule.standing x s is).0.0))
+
+    won_node_tells : (g : FreshNode) (f : Field) → (h.op x).fresh ≡ Some g
+        → IsTrueNote h (read_word g.node (g.fields Version) f (g.fields f) (suc s))
+    won_node_tells g f made =
+        let word : (k : Field) → moments h (suc s) g.node k ≡ g.fields k = λ k. (λ i. after_it i g.node k)
+        ∙ applied_fresh (h.op x) won_shape (moments h s) g k made in
+        subst (λ (v : ℕ). IsTrueNote h (read_word g.node v f (g.fields f) (suc s))) (word Version)
+        (subst (λ (w : ℕ). IsTrueNote h (read_word g.node (moments h (suc s) g.node Version) f w (suc s))) (word f)
+        (moment_tells (suc s) g.node f (rule.standing x s is).0.0))
 
   reference_tells : (n : ℕ) (f : Field) (x : ℕ) → h.reference n f ≡ Some x → IsTrueNote h (held x n f)
   reference_tells n f x is = ((rule.refers n f x is).published, (λ u. is))
@@ -152,6 +202,10 @@ module _ (h : History) (rule : Rule h) where
   loads_tell = record {
     version = version_tells;
     word = word_tells;
+    opening_word = λ n f. moment_tells 0 n f (omega arith);
+    won_version = λ x s n a is. won_version_tells x s is n a;
+    won_word = λ x s n f a b is. won_word_tells x s is n f a b;
+    won_node = λ x s g f is. won_node_tells x s is g f;
     reference = reference_tells;
     reference_version = reference_version_tells;
     look = look_tells;

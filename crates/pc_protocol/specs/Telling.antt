@@ -3,9 +3,9 @@ use Rattle.std.specs.Prelude.{◌≡◌, ℕ, suc, ◌<◌, ◌≤◌, Option, S
 use Rattle.pc_model.specs.declared.cell.Field.{Field}
 use Rattle.pc_model.specs.declared.cell.Field.TheVariants.{Version}
 use Rattle.pc_model.specs.Cells.{IsEven}
-use Rattle.pc_model.specs.Exchanges.{Visited, Seen, Changed, Exchange}
+use Rattle.pc_model.specs.Exchanges.{Visited, Seen, Changed, FreshNode, Exchange}
 use Rattle.pc_history.specs.Footprints.{IsAmong, IsOfWord}
-use Rattle.pc_protocol.specs.Histories.{for_exchange, aborted, ended, changed, locked, History, IsUndecided}
+use Rattle.pc_protocol.specs.Histories.{for_exchange, committed, aborted, ended, changed, locked, History, IsUndecided}
 use Rattle.pc_protocol.specs.Histories.{IsDecided, IsSpare}
 use Rattle.pc_protocol.specs.Seeing.{ChangesVersion, Covers}
 use Rattle.pc_protocol.specs.Notes.{Found, value, by, clock_was, visited, read_word, saw, looked, published, held, drew, verdict, rival, IsTrueNote}
@@ -29,6 +29,18 @@ pub record LoadsTell (h : History) : Type 0 where
   -- another word, after a visit of its node
   pub word : (n v b : ℕ) (f : Field) → (IsSpare (h.slot n) → ⊥) → IsTrueNote h (visited n v b)
       → IsTrueNote h (read_word n v f (h.plain n f) h.clock)
+  -- the words of the opening, and those that an exchange wrote which took effect: each word that it changed together
+  -- with the version of its node, and each word of the node that it made
+  pub opening_word : (n : ℕ) (f : Field)
+      → IsTrueNote h (read_word n (h.opening n Version) f (h.opening n f) 0)
+  pub won_version : (x s n : ℕ) (a : Changed) → h.stage x ≡ committed s → IsAmong a (h.op x).changes
+      → IsOfWord n Version a
+      → IsTrueNote h (visited n a.new (suc s))
+  pub won_word : (x s n : ℕ) (f : Field) (a b : Changed) → h.stage x ≡ committed s → IsAmong a (h.op x).changes
+      → IsOfWord n Version a → IsAmong b (h.op x).changes → IsOfWord n f b
+      → IsTrueNote h (read_word n a.new f b.new (suc s))
+  pub won_node : (x s : ℕ) (g : FreshNode) (f : Field) → h.stage x ≡ committed s → (h.op x).fresh ≡ Some g
+      → IsTrueNote h (read_word g.node (g.fields Version) f (g.fields f) (suc s))
   -- a reference: it is held; and where the word is a version, the node has at least the old number of its change
   pub reference : (n : ℕ) (f : Field) (x : ℕ) → h.reference n f ≡ Some x → IsTrueNote h (held x n f)
   pub reference_version : (n x : ℕ) (a : Changed) → h.reference n Version ≡ Some x → IsAmong a (h.op x).changes
