@@ -62,9 +62,12 @@ build() {
     open_log || fail "no log can be written, neither in $crate/out nor in ${TMPDIR:-/tmp}"
     # What is edited while the build runs is newer than the stamp, so the next call builds it.
     stamp=$(mktemp "${TMPDIR:-/tmp}/$name-stamp.XXXXXX") || fail "no file can be made in ${TMPDIR:-/tmp}"
+    # A build ends in a run of the program, on the words that are stored for it, if there are any.
+    local words=()
+    [ -e "$crate/args" ] && mapfile -t words <"$crate/args"
     # The build is a process group of its own, so that it ends where this call is ended.
     set -m
-    (set -o pipefail && cd "$crate" && rt run </dev/null 2>&1 | follow) 9<&- &
+    (set -o pipefail && cd "$crate" && rt run -- ${words[@]+"${words[@]}"} </dev/null 2>&1 | follow) 9<&- &
     build=$!
     set +m
     if ! wait "$build"; then

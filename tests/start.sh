@@ -17,6 +17,8 @@ failed=0
 cat >"$here/tools/rt" <<'RT'
 #!/usr/bin/env bash
 echo run >>../../runs
+shift
+echo "$*" >>../../words
 echo 'statements core: modules loaded=3 checked=0'
 echo 'fn low::bump: proved'
 echo 'crate low: modules loaded=1 checked=1'
@@ -85,9 +87,11 @@ holds 'a second call builds nothing' [ "$(runs)" = 1 ]
 ln -s "$at/bin/pathmap" "$here/link"
 mkdir -p "$at/crates/pathmap_make/src"
 echo other >"$at/crates/pathmap_make/src/main.rt"
+printf '0\n1 3\n' >"$at/crates/pathmap_make/args"
 touch -d '1 hour ago' "$at/crates/pathmap_make/src/main.rt"
 run "$at/bin/pathmap_make" 7
 check 'another program is built under its name' 3 'pathmap_make: built' 'other 7'
+holds 'its build runs it on the words that are stored' [ "$(tail -n 1 "$at/words")" = '-- 0 1 3' ]
 run "$at/bin/pathmap"
 holds 'it is another than the first' lacks 'other'
 cd /

@@ -1,5 +1,5 @@
 -- A made script is a script, of no more bytes than an input may have.
-use Rattle.std.proofs.Common.{◌≡◌, ℕ, zero, suc, ◌+◌, ◌-◌, ◌*◌, ◌/◌, ◌%◌, ◌^◌, ◌<◌, ◌≤◌, Bool, true, false, nat_lt, List, [], ◌∷◌}
+use Rattle.std.proofs.Common.{◌≡◌, ℕ, zero, suc, ◌+◌, ◌-◌, ◌*◌, ◌%◌, ◌^◌, ◌<◌, ◌≤◌, Bool, true, false, nat_lt, List, [], ◌∷◌}
 use Rattle.std.proofs.Common.{◌++◌, length, map, refl, sym, ap, ap₂, ◌∙◌, arith, All, sum_by, Ok, subst, length-append}
 use Rattle.std.specs.Prelude.{codes, ◌==◌, if◌then◌else◌}
 use Rattle.std.specs.Fmt.{decimal}
@@ -12,11 +12,11 @@ use Rattle.std.proofs.lemmas.List.FromFn.{length-map-range_with_len}
 use Rattle.pc_model.specs.declared.call.Call.{Call}
 use Rattle.pc_model.specs.declared.call.Call.TheVariants.{Put, Get, Remove, Ceil, Floor}
 use Rattle.pc_text.specs.declared.limits.TheConstants.{GREATEST_NUMBER, MOST_BYTES, MOST_CLIENTS, MOST_COMMANDS}
-use Rattle.pc_text.specs.Made.{state_after, draw, drawn, next_state, command_of, command_from, kind_from, commands_from}
+use Rattle.pc_text.specs.Made.{state_after, draw, next_state, command_from, kind_from, commands_from}
 use Rattle.pc_text.specs.Made.{made_commands, made_lists, made_script, state_behind, MadeReadsBack}
 use Rattle.pc_text.specs.Printed.{call_text}
-use Rattle.pc_text.specs.ScriptFacts.{AreFew, AreInRange, IsCallInRange}
-use Rattle.pc_text.specs.ScriptText.{client_line, clients_text, script_text, text_of}
+use Rattle.pc_text.specs.ScriptFacts.{AreInRange, IsCallInRange}
+use Rattle.pc_text.specs.ScriptText.{client_line, clients_text, text_of}
 use Rattle.pc_text.proofs.TextLemmas.{clients_read_back}
 
 -- ---- the numbers of made commands are in range

@@ -1,5 +1,5 @@
 -- Worked rows of the generator: each one computes.
-use Rattle.std.proofs.Common.{◌≡◌, ℕ, List, [], ◌∷◌, refl, map}
+use Rattle.std.proofs.Common.{◌≡◌, [], ◌∷◌, refl, map}
 use Rattle.std.specs.Prelude.{codes}
 use Rattle.std.specs.Fmt.{digits}
 use Rattle.std.specs.List.{range_with_len}

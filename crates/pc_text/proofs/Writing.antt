@@ -1,6 +1,6 @@
 -- A text that is written part by part: what was written so far, and what is still to come.
 use Rattle.std.proofs.Common.{◌≡◌, ℕ, List, [], ◌++◌, Option, refl, sym, ap, ◌∙◌, append_assoc, append-nil, subst, arith}
-use Rattle.std.specs.Prelude.{Result, Ok, Err}
+use Rattle.std.specs.Prelude.{Ok, Err}
 use Rattle.pc_edge.specs.declared.traits.Failed.{Failed}
 use Rattle.pc_edge.specs.Sending.{Writes}
 use Rattle.pc_edge.proofs.Sends.{Sends-nothing, Sends-append, Writes-more, Writes-failed}

@@ -1,7 +1,7 @@
 -- The client's line, and then its commands'.
-use Rattle.std.proofs.Common.{◌++◌, ap, sym, subst, List, ℕ, append_assoc}
+use Rattle.std.proofs.Common.{◌++◌, subst, List, ℕ, append_assoc}
 use Rattle.pc_edge.specs.Sending.{Writes}
-use Rattle.pc_edge.proofs.Sends.{Writes-more, Writes-failed}
+use Rattle.pc_edge.proofs.Sends.{Writes-more}
 use Rattle.pc_text.specs.ScriptText.{client_line, text_of}
 use Rattle.pc_text.specs.Made.{commands_from, made_commands}
 use Rattle.pc_text.proofs.Writing.{Writes-append}

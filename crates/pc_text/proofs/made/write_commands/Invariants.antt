@@ -1,5 +1,5 @@
 -- The commands that the generator has still to draw are to come.
-use Rattle.std.proofs.Common.{ℕ, ◌-◌, ◌<◌, ◌^◌}
+use Rattle.std.proofs.Common.{◌-◌, ◌<◌, ◌^◌}
 use Rattle.pc_text.specs.Made.{commands_from}
 use Rattle.pc_text.specs.ScriptText.{text_of}
 use Rattle.pc_text.proofs.Writing.{HasWritten}

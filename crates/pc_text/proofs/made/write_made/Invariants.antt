@@ -1,5 +1,5 @@
 -- The texts of the clients that follow are to come.
-use Rattle.std.proofs.Common.{ℕ, ◌+◌, ◌-◌}
+use Rattle.std.proofs.Common.{◌+◌, ◌-◌}
 use Rattle.pc_text.proofs.MadeLemmas.{text_from}
 use Rattle.pc_text.proofs.Writing.{HasWritten}
 use Rattle.pc_text.proofs.made.write_made.Given as goal
