@@ -1,6 +1,6 @@
 -- What is read of a source stands for its whole input, and where a seed is named its script does. Why a run of it ends
 -- in a fault.
-use Rattle.std.proofs.Common.{ℕ, ◌≡◌, ◌≤◌, List, Option, Some, None, Result, Ok, Err, sym, ap, ◌∙◌, refl, subst, length, is_some, is_ok, arith}
+use Rattle.std.proofs.Common.{ℕ, ◌≡◌, ◌≤◌, List, Option, Some, None, Err, sym, ap, ◌∙◌, refl, subst, length, is_some, is_ok, arith}
 use Rattle.std.specs.Prelude.{IfSome, IsNone}
 use Rattle.std.proofs.lemmas.Bool.{true≢false}
 use Rattle.pc_text.specs.declared.fault.Fault.{Fault}
@@ -10,7 +10,6 @@ use Rattle.pc_text.specs.declared.kind.ScriptKind.{ScriptKind}
 use Rattle.pc_text.specs.declared.limits.TheConstants.{MOST_BYTES}
 use Rattle.pc_text.specs.Made.{made_script}
 use Rattle.pc_text.specs.Script.{script_of}
-use Rattle.pc_text.specs.ScriptValue.{ScriptValue}
 use Rattle.pc_text.proofs.MadeLemmas.{made_reads_back}
 use Rattle.pc_run.specs.declared.reading.TheConstants.{MADE_CLIENTS, MADE_COMMANDS}
 use Rattle.pc_run.specs.declared.words.Options.{Options}

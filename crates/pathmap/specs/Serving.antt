@@ -1,6 +1,6 @@
 -- How a run of the program ends: what was printed where it ended well, and why where it didn't.
 use Rattle.std.specs.Prelude.{◌≡◌, ℕ, Bool, ◌<◌, ◌≤◌, ◌⊎◌, ⊤, List, length, Option, Some, Ok, Err, IsErr}
-use Rattle.std.specs.Prelude.{IfSome, IsSome, IsNone}
+use Rattle.std.specs.Prelude.{IfSome, IsNone}
 use Rattle.std.specs.Io.KnownBytes.{Appends, IsAtEnd}
 use Rattle.pc_model.specs.declared.call.Entry.{Entry}
 use Rattle.pc_model.specs.Map.{Pairs}

@@ -4,7 +4,6 @@ use Rattle.std.proofs.Common.{ap, ◌∙◌, subst, append_assoc, arith, length-
 use Rattle.std.proofs.Math.Seq.{take-append_seam}
 use Rattle.std.proofs.lemmas.List.{append-nil, length-take-le}
 use Rattle.std.specs.Io.KnownBytes.{Consumes, IsAtEnd}
-use Rattle.std.specs.Prelude.{IfSome}
 use Rattle.pc_text.specs.declared.limits.TheConstants.{MOST_BYTES}
 use Rattle.pc_run.specs.Reading.{IsInput, IsLongerThan, TakesAtMost, TakesPiece}
 

@@ -1,6 +1,5 @@
 -- A made script is no longer than an input may be.
 use Rattle.std.proofs.Common.{arith, ap, length}
-use Rattle.pc_text.specs.declared.limits.TheConstants.{MOST_BYTES, MOST_CLIENTS, MOST_COMMANDS}
 use Rattle.pc_text.proofs.MadeLemmas.{made_is_short}
 use Rattle.pc_run.specs.declared.reading.TheConstants.{MADE_CLIENTS, MADE_COMMANDS}
 use Rattle.pc_run.proofs.reading.make_input.Goals as goal

@@ -1,5 +1,5 @@
 -- Where a seed is named, its script is the input.
-use Rattle.std.proofs.Common.{sym, subst, Option, Some, List, ℕ}
+use Rattle.std.proofs.Common.{sym, subst, Option, ℕ}
 use Rattle.std.specs.Prelude.{IfOk, IfErr}
 use Rattle.std.proofs.lemmas.Result.{IfOk-weaker}
 use Rattle.pc_run.specs.Reading.{IsInput, IsInputFault, input_for}

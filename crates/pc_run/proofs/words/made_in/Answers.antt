@@ -1,5 +1,5 @@
 -- The text that the getter gives is that of the row of matches.
-use Rattle.std.proofs.Common.{◌∙◌, Option, Some, None, ap, List, ℕ}
+use Rattle.std.proofs.Common.{◌∙◌, Option, Some, None, ap, ℕ}
 use Rattle.std.specs.Prelude.{option_map}
 use Rattle.std.specs.Option.{option_map_or}
 use Rattle.clap.specs.Words.{Text, found_of}
