@@ -1,0 +1,50 @@
+-- Where the last pass has taken in all others and is free, no install stands anywhere, and the words that are left
+-- are those of a closed board.
+use Rattle.std.proofs.Common.{◌≡◌, ◌≢◌, ℕ, ◌<◌, Bool, true, List, sym, ap, ◌∙◌, subst, arith}
+use mathlib.Core.Option.{some}
+use mathlib.Core.Logic.{dite}
+use native.Mathlib.Decide.{ℕ_discrete, dec_le}
+use lib.ListN.{get_elem?}
+use Rattle.atomic_table.specs.Table.{Final, Seen}
+use Rattle.pc_model.specs.Cells.{Cells}
+use Rattle.pc_rule_law.specs.Board.{Size, Board, Represents}
+use Rattle.pc_rule_law.specs.Past.{Past}
+use Rattle.pc_rule_law.specs.Views.{View}
+use Rattle.pc_rule_law.specs.Rule.{Standing, CellOk, Kept, Holds}
+use Rattle.pc_rule_law.specs.Conditions.{IsFree}
+use Rattle.pc_rule_law.specs.Values.{IsPlainValue}
+use Rattle.pc_rule_law.specs.Closings.{IsClosed}
+use Rattle.pc_rule_law.proofs.InstallStores.{none_stands}
+use Rattle.pc_rule_law.proofs.Values.{plain_value, one_plain_value, install_is_present}
+
+module _ (sound : ℕ → Cells → Type 0) (z : Size) where
+  -- no install of any pass stands
+  pub nothing_stands : (b : Board) (h : Past) (views : List View) (id : ℕ) (v : View) → Kept sound z b h views
+      → get_elem? views id ≡ some v → v.live ≡ true → v.last ≡ true → v.rest ≡ 0 → IsFree v
+      → (q : ℕ) → q < z.seats → (k : ℕ) → h.course q k ≢ 1
+  nothing_stands b h views id v kept at live last all free q lt k one = let mine = kept.each_view id v at in
+      let own = mine.own live in
+      dite (dec_le h.count q)
+      (λ unmade. let none' : h.course q k ≡ 0 = (kept.blank q unmade lt).unplaced k in
+      let e : h.course q k ≡ 1 = one in absurd (omega arith))
+      (λ made. dite (ℕ_discrete q v.seat)
+      (λ self. none_stands sound z b h id v kept.shared own mine.noted free k
+      (ap (λ (j : ℕ). h.course j k) (sym (self ∙ own.seated.0)) ∙ one))
+      (λ other. (mine.counted.taken live last q (omega arith) (omega arith) other).1 k one))
+
+  pub closes : (id : ℕ) (v : View) (ws : List ℕ) (xs : List Bool) → Final (Seen (Holds sound z) id v) ws xs
+      → v.live ≡ true → v.last ≡ true → v.rest ≡ 0 → IsFree v → IsClosed sound z ws
+  closes id v ws xs final live last all free = let s = final.0 in let held = final.1.0 in let at = final.1.1 in
+      let b = held.board in let h = held.past in let shared = held.kept.shared in record {
+        board = b;
+        cells = h.cells;
+        represents = subst (λ (l : List ℕ). Represents z l b) final.2 held.represents;
+        sound_cells = shared.sound_now;
+        no_install = λ n f q k is. let st : Standing h.placing h.course (h.plain n f) n f q k = subst
+            (CellOk z.seats b.status h.attempt h.placing h.course (h.plain n f) n f) is (shared.each_cell n f) in
+            nothing_stands b h s.views id v held.kept at live last all free q
+            (install_is_present sound z b h shared n f q k is).0 k st.stands;
+        plain = λ n f. subst (IsPlainValue b n f (b.cell n f)) (shared.tied n f) (plain_value sound z b h shared n f);
+        one = λ n f x is. one_plain_value sound z b h shared n f x (h.plain n f) is (plain_value sound z b h shared n f)
+            ∙ shared.tied n f;
+      }

@@ -1,0 +1,148 @@
+-- The load of a status: which attempts of the pass are decided. Where the present one isn't, each install that is
+-- known to be for it was placed while it was undecided, since a number is undecided only once.
+use Rattle.std.proofs.Common.{◌≡◌, ℕ, zero, suc, ◌+◌, ◌*◌, ◌^◌, ◌<◌, ◌≤◌, Bool, true, false, ◌==◌, List, [], ◌∷◌, refl, sym, ◌∙◌, subst, arith}
+use mathlib.Core.Option.{none}
+use Rattle.atomic_table.specs.Table.{step, Allows}
+use Rattle.pc_model.specs.Cells.{Cells}
+use Rattle.pc_words.specs.declared.word.WordKind.TheVariants.{Exchange}
+use Rattle.pc_words.specs.declared.status.Stage.{Stage}
+use Rattle.pc_words.specs.declared.status.Stage.TheVariants.{Idle, Undecided, Succeeded, Withdrawn, Changed, Locked}
+use Rattle.pc_words.specs.declared.status.Status.{Status}
+use Rattle.pc_words.specs.Words.{raw}
+use Rattle.pc_words.specs.Statuses.{packed, unpacked}
+use Rattle.pc_words.proofs.Statuses.{unpacked_packed}
+use Rattle.pc_rule_law.specs.Board.{Size, own_status, at_own, address, Inside, Board}
+use Rattle.pc_rule_law.specs.Past.{Has, Past, placing_word}
+use Rattle.pc_rule_law.specs.Stages.{IsOpen, IsUndecided, decided_from, decided_by}
+use Rattle.pc_rule_law.specs.Views.{Note, entry, install_word, early, decided_below, held, View, NoteHolds, AllNotes, with_notes}
+use Rattle.pc_rule_law.specs.Rule.{Shared, Holds}
+use Rattle.pc_rule_law.specs.Plays.{Mine, StatusLoaded, LoadedStatus, loads_status}
+use Rattle.pc_rule_law.proofs.Lists.{all_none, all_more, has_left, has_first, has_later}
+use Rattle.pc_rule_law.proofs.Keeping.{noted_more}
+use Rattle.pc_rule_law.proofs.Learning.{learnt, has_learnt, all_learnt, only_if, when, has_if_same, all_if_same, has_when, all_when, later_more}
+use Rattle.pc_rule_law.proofs.Stages.{decided_not_undecided}
+use Rattle.pc_rule_law.proofs.Steps.{SameValues, same_values, looked}
+
+-- whether a stage is undecided
+abbrev is_open : Stage → Bool
+is_open Idle = false
+is_open Undecided = true
+is_open (Succeeded t) = false
+is_open Withdrawn = false
+is_open (Changed n) = false
+is_open (Locked n p) = false
+
+open_is : (s : Stage) → IsOpen s → is_open s ≡ true
+open_is Idle o = absurd o
+open_is Undecided o = refl
+open_is (Succeeded t) o = absurd o
+open_is Withdrawn o = absurd o
+open_is (Changed n) o = absurd o
+open_is (Locked n p) o = absurd o
+
+is_open_then : (s : Stage) → is_open s ≡ true → IsOpen s
+is_open_then Idle e = absurd (cc)
+is_open_then Undecided e = tt
+is_open_then (Succeeded t) e = absurd (cc)
+is_open_then Withdrawn e = absurd (cc)
+is_open_then (Changed n) e = absurd (cc)
+is_open_then (Locked n p) e = absurd (cc)
+
+-- a status says which attempts are decided
+decided_so : (k : ℕ) (s : Stage) → (decided_from k s ≤ k + 1) × (decided_from k s ≡ k + 1 → IsOpen s → ⊥)
+decided_so k Idle = (omega arith, λ e o. o)
+decided_so k Undecided = (omega arith, λ e o. absurd (omega arith))
+decided_so k (Succeeded t) = (omega arith, λ e o. o)
+decided_so k Withdrawn = (omega arith, λ e o. o)
+decided_so k (Changed n) = (omega arith, λ e o. o)
+decided_so k (Locked n p) = (omega arith, λ e o. o)
+
+-- what a load of the status of p tells, of each note: attempt m is undecided
+abbrev learn_status : ℕ → ℕ → Note → List Note
+learn_status p m (install_word q k (suc zero) x) = only_if (x == raw (Exchange p m)) (early q k)
+learn_status p m _ = []
+
+bool_cases : (P : Type 0) (c : Bool) → (c ≡ true → P) → (c ≡ false → P) → P
+bool_cases P true t f = t refl
+bool_cases P false t f = f refl
+
+module _ (sound : ℕ → Cells → Type 0) (z : Size) (b : Board) (h : Past) (few : z.seats ≤ 32)
+    (s : Shared sound z b h) where
+  -- the exchange of an install that was placed, from its word
+  named : (q k p a : ℕ) → 1 ≤ h.course q k → p < z.seats → placing_word (h.placing q k) k 1 ≡ raw (Exchange p a)
+      → ((h.placing q k).seat ≡ p) × ((h.placing q k).number ≡ a)
+  named q k p a has lt e = let y = s.installs q k has in let x = h.placing q k in
+      let low : x.seat < z.seats = y.seat in
+      let is : (2 + 4 * x.seat) + 1024 * x.number ≡ (2 + 4 * p) + 1024 * a = e in (omega arith, omega arith)
+
+  status_learnt : (p : ℕ) → p < z.seats → IsOpen (b.status p).stage → (x : Note) → NoteHolds z b h x
+      → AllNotes (NoteHolds z b h) (learn_status p (b.status p).number x)
+  status_learnt p lt undecided (install_word q k (suc zero) x) g = all_if_same (NoteHolds z b h) x
+      (raw (Exchange p (b.status p).number)) (early q k) (λ e. let m : ℕ = (b.status p).number in
+      let is = named q k p m g.0.0 lt (g.0.1 ∙ e) in let y = s.installs q k g.0.0 in (
+        (
+          g.0.0,
+          bool_cases ((h.placing q k).early ≡ true) (h.placing q k).early (λ yes. yes)
+              (λ no. absurd (decided_not_undecided b.status (h.placing q k).seat (h.placing q k).number
+              ((h.placing q k).number + 1) (y.late no) (omega arith)
+              (subst (λ (i : ℕ × ℕ). IsUndecided b.status i.0 i.1) (λ j. (sym is.0 j, sym is.1 j))
+              (refl, undecided)))),
+        ),
+        g.1.0,
+      ))
+  status_learnt p lt undecided _ g = all_none (NoteHolds z b h)
+
+  status_loaded : (v : View) (more : List Note) (p : ℕ) → p < z.seats → AllNotes (NoteHolds z b h) v.notes
+      → more ≡ decided_below p (decided_by (b.status p))
+      ∷ when (is_open (b.status p).stage) (learnt (learn_status p (b.status p).number) v.notes)
+      → StatusLoaded v p (b.status p) (with_notes v more)
+  status_loaded v more p lt good is = let m : ℕ = (b.status p).number in
+      let first = decided_below p (decided_by (b.status p)) in
+      let more' = when (is_open (b.status p).stage) (learnt (learn_status p m) v.notes) in record {
+        later = later_more v more;
+        decided = has_left more v.notes first (subst (λ (l : List Note). Has l first) (sym is) (has_first first more'));
+        undecided = λ o q k has. has_left more v.notes (early q k)
+            (subst (λ (l : List Note). Has l (early q k)) (sym is) (has_later first more' (early q k)
+            (has_when (is_open (b.status p).stage) (learnt (learn_status p m) v.notes) (early q k)
+            (open_is (b.status p).stage o)
+            (has_learnt (learn_status p m) v.notes (install_word q k 1 (raw (Exchange p m))) (early q k) has
+            (has_if_same (raw (Exchange p m)) (raw (Exchange p m)) (early q k) refl)))));
+        installs_below = λ q k a has. let g = good (install_word q k 1 (raw (Exchange p a))) has in
+            let n = named q k p a g.0.0 lt g.0.1 in let y = s.installs q k g.0.0 in
+            subst (λ (i : ℕ × ℕ). i.1 ≤ (b.status i.0).number) (λ j. (n.0 j, n.1 j)) y.published;
+        entries_below = λ a x has. (good (entry p a x) has).0.0;
+        held_below = λ a n f has. (good (held p a n f) has).0.0;
+      }
+
+module _ (sound : ℕ → Cells → Type 0) (z : Size) where
+  -- a load of the status of p
+  pub load_status : (slots id : ℕ) (me : Mine) (p : ℕ) → me.0.size ≡ z → me.0.live ≡ true
+      → Inside z (at_own p own_status)
+      → Allows (Holds sound z) slots id me (address z (at_own p own_status)) (λ r. r)
+      (loads_status (step slots (address z (at_own p own_status)) 0 0 none) me)
+  load_status slots id me p sized live in_p = looked sound z SameValues same_values slots id me (at_own p own_status)
+      (LoadedStatus me.0) in_p sized
+      (λ b h views k at. let v = me.0 in let st : Status = b.status p in let mine = k.each_view id v at in
+      let first = decided_below p (decided_by st) in
+      let more = first ∷ when (is_open st.stage) (learnt (learn_status p st.number) v.notes) in
+      let good : AllNotes (NoteHolds z b h) v.notes = mine.noted in
+      let small = k.shared.statuses p in
+      let same : unpacked (packed st) ≡ st = unpacked_packed st small in
+      let now = decided_so st.number st.stage in let low : st.number < 2 ^ 28 = small.0 in
+      let here : NoteHolds z b h first = (now, (in_p.0, (let le = now.0 in omega arith))) in (
+        with_notes v more,
+        noted_more sound z b h views id v more k at live
+            (all_more (NoteHolds z b h) first
+            (when (is_open st.stage) (learnt (learn_status p st.number) v.notes)) here
+            (all_when (NoteHolds z b h) (is_open st.stage) (learnt (learn_status p st.number) v.notes)
+            (λ o. all_learnt (NoteHolds z b h) (learn_status p st.number) v.notes
+            (λ x has. status_learnt sound z b h k.few k.shared p in_p.0 (is_open_then st.stage o) x (good x has))))),
+        (
+          (refl, refl, refl, refl, refl),
+          (
+            (st, small, refl),
+            subst (λ (u : Status). StatusLoaded v p u (with_notes v more)) (sym same)
+                (status_loaded sound z b h k.few k.shared v more p in_p.0 good refl),
+          ),
+        ),
+      ))

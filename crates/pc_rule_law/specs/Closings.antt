@@ -1,0 +1,18 @@
+-- What a closed board is.
+use Rattle.std.specs.Prelude.{◌≡◌, ◌≢◌, ℕ, List}
+use Rattle.pc_model.specs.declared.cell.Field.{Field}
+use Rattle.pc_model.specs.Cells.{Cells}
+use Rattle.pc_words.specs.declared.word.WordKind.TheVariants.{Install}
+use Rattle.pc_rule_law.specs.Board.{Size, Board, Represents}
+use Rattle.pc_rule_law.specs.Values.{IsPlainValue}
+
+-- the words that are left are those of a board in which no install stands; each word has one plain value, and these
+-- are cells that are sound
+pub record IsClosed (sound : ℕ → Cells → Type 0) (z : Size) (words : List ℕ) : Type 0 where
+  pub board : Board
+  pub cells : Cells
+  pub represents : Represents z words board
+  pub sound_cells : sound z.slots cells
+  pub no_install : (n : ℕ) (f : Field) (q k : ℕ) → board.cell n f ≢ Install q k
+  pub plain : (n : ℕ) (f : Field) → IsPlainValue board n f (board.cell n f) (cells n f)
+  pub one : (n : ℕ) (f : Field) (x : ℕ) → IsPlainValue board n f (board.cell n f) x → x ≡ cells n f

@@ -1,0 +1,11 @@
+pub mod Board
+pub mod Closings
+pub mod Conditions
+pub mod Openings
+pub mod Past
+pub mod Plays
+pub mod Rule
+pub mod Seats
+pub mod Stages
+pub mod Values
+pub mod Views

@@ -1,0 +1,6 @@
+//! The rule of a board that several passes share without a lock: definitions and lemmas, without code that runs. A
+//! board is words in memory; each pass steps on one of them at a time, and the rule says what holds of all words and
+//! of all that the passes know between any two steps. Here stand the board as plain data, what the rule remembers of
+//! the past, what a pass knows, the rule itself by topics, and that the steps of an install keep it. The functions
+//! that make these steps are to stand in a crate above, so that an edit of one proves no lemma again.
+#![tactic(auto)]

@@ -1,0 +1,3 @@
+pub mod PackingLaws
+pub mod Statuses
+pub mod Words
