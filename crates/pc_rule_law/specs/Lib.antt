@@ -7,5 +7,6 @@ pub mod Plays
 pub mod Rule
 pub mod Seats
 pub mod Stages
+pub mod Tables
 pub mod Values
 pub mod Views
