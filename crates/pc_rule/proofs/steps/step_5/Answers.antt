@@ -1,0 +1,31 @@
+-- The step's lemma, at the address of the word.
+use Rattle.std.proofs.Common.{ap, ◌∙◌}
+use Rattle.pc_rule_law.specs.Board.{Size, Place, at_cell}
+use Rattle.pc_rule_law.specs.Views.{View}
+use Rattle.pc_rule_law.specs.Plays.{LoadedCell}
+use Rattle.pc_rule_law.specs.Tables.{size_of, sound_cells}
+use Rattle.pc_rule_law.proofs.Places.{within}
+use Rattle.pc_rule_law.proofs.Looks.{load_cell}
+use Rattle.pc_rule.proofs.Telling.{told_at}
+use Rattle.pc_rule.proofs.steps.step_5.Goals as goal
+
+pub load-requires : goal.load-requires
+load-requires g c = let key = c.args.board.now.table.shared.key in let z : Size = size_of key in let p : Place = at_cell c.args.node c.args.field in (
+  c.requires.pass.0,
+  rw (c.cell_word-word.ensures, c.args.board.now.wide.0) (within z p c.requires.inside),
+  rw c.cell_word-word.ensures (load_cell (sound_cells g.H.Shape.form key) z _ _ c.args.pass.now.seat.me c.args.node c.args.field c.requires.pass.1 c.args.pass.now.live c.requires.inside),
+)
+
+pub invariant_of-pass : goal.invariant_of-pass
+invariant_of-pass g c = let t = c.load.ensures.2 in let v : View = c.args.pass.now.seat.me.0 in let z : Size = size_of c.args.board.now.table.shared.key in let p : Place = at_cell c.args.node c.args.field in
+    let told = told_at v z c.cell_word-word.result (LoadedCell v c.load.result c.load.new.seat.me.0) p c.requires.pass.1 t.2 c.requires.inside c.cell_word-word.ensures in
+    record {
+      live = t.1.0 ∙ c.args.pass.now.live;
+      numbered = t.1.1 ∙ c.args.pass.now.numbered;
+      counted = ap (λ (w : View). w.install.number) told.1 ∙ c.args.pass.now.counted;
+      holds_none = t.0 ∙ c.args.pass.now.holds_none;
+    }
+
+pub returns-clause-told : goal.returns-clause-told
+returns-clause-told g c = let v : View = c.args.pass.now.seat.me.0 in let z : Size = size_of c.args.board.now.table.shared.key in let p : Place = at_cell c.args.node c.args.field in
+    told_at v z c.cell_word-word.result (LoadedCell v c.load.result c.load.new.seat.me.0) p c.requires.pass.1 c.load.ensures.2.2 c.requires.inside c.cell_word-word.ensures

@@ -1,0 +1,34 @@
+//! The board, and what a pass steps on it with.
+ghost use Rattle.std.specs.Prelude.{◌≡◌, ◌≤◌, [], true};
+ghost use Rattle.pc_rule_law.specs.Board.{words_of};
+ghost use Rattle.pc_rule_law.specs.Tables.{size_of};
+
+use atomic_table::{Seat, Table};
+use pc_model::Shape;
+use pc_rule_law::{Law, Opening, PassView};
+use std::alloc::Global;
+use std::marker::PhantomData;
+
+/// The words that passes share.
+#[derive(Drop)]
+pub struct Board<H: Shape> {
+    pub(crate) table: Table<bool, PassView, Opening, Law<H>, Global>,
+    pub(crate) seats: usize,
+    pub(crate) slots: usize,
+    ghost sized: { (seats ≡ table.shared.key.seats) × (slots ≡ table.shared.key.slots) },
+    ghost wide: { (table.shared.table_id.words ≡ words_of (size_of table.shared.key)) × (table.shared.table_id.slots ≡ 0) },
+    ghost small: { (seats ≤ 32) × (slots ≤ 61000) },
+}
+
+/// A seat at a board, with what its pass knows.
+#[derive(Drop)]
+pub struct Pass<H: Shape> {
+    pub(crate) seat: Seat<bool, PassView>,
+    pub(crate) index: usize,
+    pub(crate) installs: u64,
+    shape: PhantomData<H>,
+    ghost live: { seat.me.0.live ≡ true },
+    ghost numbered: { seat.me.0.seat ≡ index },
+    ghost counted: { seat.me.0.install.number ≡ installs },
+    ghost holds_none: { seat.me.1 ≡ [] },
+}
