@@ -1,2 +1,5 @@
+pub mod Filling
 pub mod Numbers
+pub mod Starting
 pub mod Telling
+pub mod WordsAtOpening

@@ -26,7 +26,7 @@ pub struct Pass<H: Shape> {
     pub(crate) seat: Seat<bool, PassView>,
     pub(crate) index: usize,
     pub(crate) installs: u64,
-    shape: PhantomData<H>,
+    pub(crate) shape: PhantomData<H>,
     ghost live: { seat.me.0.live ≡ true },
     ghost numbered: { seat.me.0.seat ≡ index },
     ghost counted: { seat.me.0.install.number ≡ installs },

@@ -4,8 +4,11 @@
 #![tactic(auto)]
 
 mod board;
+mod life;
+mod opening;
 mod places;
 mod steps;
 
 pub use board::{Board, Pass};
+pub use opening::{Place, Posted};
 pub use steps::{step_3, step_4, step_5, step_6, step_7, step_8};

@@ -8,7 +8,7 @@ use crate::board::Board;
 use pc_model::{Field, Shape};
 
 /// The place of a field in its node.
-fn field_place(field: Field) -> usize
+pub(crate) fn field_place(field: Field) -> usize
     ensures { result ≡ field_number field }
 {
     match field {

@@ -16,7 +16,7 @@ use Rattle.pc_rule_law.proofs.Lists.{all_none, all_more, all_both, none_has}
 use Rattle.pc_rule_law.proofs.Seats.{Opens}
 
 -- three words a change
-changes_words : (xs : List Changed) (i : ℕ) (x : Changed) → get_elem? xs i ≡ some x
+pub changes_words : (xs : List Changed) (i : ℕ) (x : Changed) → get_elem? xs i ≡ some x
     → (changes_word xs (3 * i) ≡ place_number x.node x.field) × (changes_word xs (1 + 3 * i) ≡ x.old)
     × (changes_word xs (2 + 3 * i) ≡ x.new)
 changes_words [] i x at = absurd (some-ne-none x (sym at))

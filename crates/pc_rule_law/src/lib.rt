@@ -12,5 +12,7 @@ mod view;
 
 pub use law::Law;
 pub use opening::{Given, Opening, Starts};
-pub use plays::{JoinPass, LoadCell, LoadInstall, LoadStatus, MakePass, PlaceInstall, StoreInstall, TakeInstall};
+pub use plays::{
+    JoinPass, LoadCell, LoadInstall, LoadStatus, MakePass, PlaceInstall, StoreInstall, TakeInstall,
+};
 pub use view::PassView;

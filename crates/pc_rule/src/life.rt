@@ -1,0 +1,66 @@
+//! How a board is opened with its passes.
+ghost use Rattle.std.specs.Prelude.{IfOk, true, ◌≡◌, ◌+◌, ◌<◌, ◌≤◌, ◌^◌, map};
+ghost use Rattle.pc_model.specs.Linked.{opening_cells};
+ghost use Rattle.pc_rule_law.specs.Openings.{MayOpen, opening_notes};
+ghost use Rattle.pc_rule_law.specs.Seats.{maker, made_by};
+ghost use Rattle.pc_rule_law.specs.Tables.{size_of, note_of, first_view, sound_cells};
+ghost use Rattle.pc_rule.specs.Passes.{view, board_size, IsPassOf};
+ghost use Rattle.pc_rule.specs.Starting.{all_posted};
+
+use crate::board::{Board, Pass};
+use crate::opening::{Posted, words_start};
+use atomic_table::Table;
+use pc_model::Shape;
+use pc_rule_law::{Law, MakePass, Opening, PassView};
+use std::alloc::{AllocError, Global};
+use std::marker::PhantomData;
+
+impl<H: Shape> Board<H> {
+    /// A board that opens, with its first pass.
+    fn first(
+        alloc: Global,
+        opening: &Opening,
+        posted: &[Posted],
+    ) -> Result<(Board<H>, Pass<H>), AllocError>
+        requires small { (opening.now.slots ≤ 61000) × (opening.now.seats ≤ 32) × (opening.now.starts.attempt < 2 ^ 28) × (opening.now.starts.version < 2 ^ 60) }
+        requires may { MayOpen (sound_cells H.form opening.now) (size_of opening.now) (opening_cells opening.now.starts.version) (all_posted posted.now) }
+        requires given { map note_of opening.now.given.items ≡ opening_notes 0 (all_posted posted.now) }
+        ensures { IfOk result (λ r. (board_size r.0 ≡ size_of opening.now) × IsPassOf r.0 r.1 × (view r.1 ≡ first_view opening.now)) }
+    {
+        let words = words_start(alloc, opening, posted)?;
+        let (table, seat) = Table::<bool, PassView, Opening, Law<H>, Global>::of_words(
+            alloc,
+            words.as_slice(),
+            opening,
+        )?;
+        let board = Board {
+            table,
+            seats: opening.seats,
+            slots: opening.slots,
+        };
+        let pass = Pass {
+            seat,
+            index: 0,
+            installs: opening.starts.install,
+            shape: PhantomData,
+        };
+        Ok((board, pass))
+    }
+
+    /// The last pass makes another.
+    fn another(&self, last: &mut Pass<H>, index: usize, installs: u64) -> Pass<H>
+        requires pass { IsPassOf self.now last.old × ((view last.old).last ≡ true) }
+        requires index { ((view last.old).seat + 1 ≡ index) × (index < (board_size self.now).seats) }
+        requires installs { installs ≡ (board_size self.now).starts.install }
+        ensures pass { IsPassOf self.now last.new × (view last.new ≡ maker (view last.old)) }
+        ensures made { IsPassOf self.now result × (view result ≡ made_by (view last.old)) }
+    {
+        let seat = self.table.shared.split_seat::<MakePass>(&mut last.seat);
+        Pass {
+            seat,
+            index,
+            installs,
+            shape: PhantomData,
+        }
+    }
+}
