@@ -1,4 +1,5 @@
 pub mod Filling
+pub mod Giving
 pub mod Numbers
 pub mod Starting
 pub mod Telling

@@ -1,14 +1,15 @@
 //! What the words of a board are when it opens. Each word is a function of its address, so they are written in one loop.
-ghost use Rattle.std.specs.Prelude.{IfOk, ◌≡◌, ◌+◌, ◌-◌, ◌*◌, ◌/◌, ◌%◌, ◌<◌, ◌≤◌, ◌^◌, ℕ, length, map};
+ghost use Rattle.std.specs.Prelude.{IfOk, OnOk, ◌≡◌, ◌++◌, ◌+◌, ◌-◌, ◌*◌, ◌/◌, ◌%◌, ◌<◌, ◌≤◌, ◌^◌, ℕ, length, map};
 ghost use Rattle.pc_words.specs.Statuses.{packed};
 ghost use Rattle.pc_rule_law.specs.Board.{Place as At, place_number, address, Inside, shows, Represents};
-ghost use Rattle.pc_rule_law.specs.Tables.{size_of};
-ghost use Rattle.pc_rule_law.specs.Openings.{posted_stage, opening_status, opening_changes, changes_word, descriptor_word};
+ghost use Rattle.pc_rule_law.specs.Views.{entry};
+ghost use Rattle.pc_rule_law.specs.Tables.{size_of, note_of};
+ghost use Rattle.pc_rule_law.specs.Openings.{posted_stage, opening_status, opening_changes, changes_word, descriptor_word, entries_of, opening_notes};
 ghost use Rattle.pc_rule.specs.Starting.{change_of, all_posted, cell_number, own_number, starting_board};
 
 use crate::places::field_place;
 use pc_model::Field;
-use pc_rule_law::{Opening, Starts};
+use pc_rule_law::{Given, Opening, Starts};
 use pc_words::{Stage, Status, pack};
 use std::alloc::{AllocError, Global};
 
@@ -168,4 +169,42 @@ pub(crate) fn words_start(
         at += 1;
     }
     Ok(words)
+}
+
+/// The changes of all exchanges that are given, with the seats that they are given to.
+pub(crate) fn given_start(alloc: Global, posted: &[Posted]) -> Result<Vec<Given>, AllocError>
+    ensures { IfOk result (λ given. map note_of given.items ≡ opening_notes 0 (all_posted posted.now)) }
+{
+    let mut given = Vec::new(alloc);
+    let mut seat = 0;
+    while seat < posted.len() {
+        give(&mut given, seat, posted[seat].places.as_slice())?;
+        seat += 1;
+    }
+    Ok(given)
+}
+
+/// Puts the changes of one exchange behind the others.
+fn give(given: &mut Vec<Given>, seat: usize, places: &[Place]) -> Result<(), AllocError>
+    ensures { OnOk result (map note_of given.new.items ≡ map note_of given.old.items ++ entries_of seat (map change_of places.now)) }
+{
+    let mut i = 0;
+    while i < places.len() {
+        given.push(given_to(seat, places[i]))?;
+        i += 1;
+    }
+    Ok(())
+}
+
+/// A change with the seat that it is given to.
+fn given_to(seat: usize, place: Place) -> Given
+    ensures { note_of result ≡ entry seat 1 (change_of place) }
+{
+    Given {
+        seat,
+        node: place.node,
+        field: place.field,
+        old: place.old,
+        new: place.new,
+    }
 }
