@@ -1,17 +1,13 @@
 -- What is given at the opening, change by change.
-use Rattle.std.proofs.Common.{◌≡◌, ℕ, zero, suc, ◌+◌, ◌<◌, ◌≤◌, List, [], ◌∷◌, ◌++◌, length, map, drop, get_or, refl, sym, ap, ap₂, ◌∙◌, subst, arith}
-use mathlib.Core.Option.{some, some-injective, some-ne-none}
+use Rattle.std.proofs.Common.{◌≡◌, ℕ, zero, suc, ◌≤◌, List, [], ◌∷◌, ◌++◌, length, map, drop, refl, sym, ap, ap₂, ◌∙◌, arith}
+use mathlib.Core.Option.{some}
 use lib.ListN.{get_elem?}
-use Rattle.atomic_table.proofs.Lists.{at_map, drop_at}
+use Rattle.atomic_table.proofs.Lists.{drop_at}
 use Rattle.pc_model.specs.Exchanges.{Changed}
 use Rattle.pc_rule_law.specs.declared.opening.Given.{Given}
 use Rattle.pc_rule_law.specs.Openings.{Posted as Exchange, entries_of, opening_notes}
 use Rattle.pc_rule_law.specs.Tables.{note_of}
 use Rattle.pc_rule_law.specs.Views.{Note, entry}
-use Rattle.pc_rule.specs.declared.opening.Place.{Place}
-use Rattle.pc_rule.specs.declared.opening.Posted.{Posted}
-use Rattle.pc_rule.specs.Starting.{change_of, posted_of, all_posted}
-use Rattle.pc_rule.proofs.Starting.{element, given_at}
 
 module _ {X : Type 0} where
   pub in_parts : (a b c : List X) → (a ++ b) ++ c ≡ a ++ (b ++ c)

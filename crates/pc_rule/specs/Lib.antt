@@ -1,3 +1,4 @@
 pub mod Conditions
+pub mod Opened
 pub mod Passes
 pub mod Starting

@@ -5,6 +5,7 @@ ghost use Rattle.pc_rule_law.specs.Openings.{MayOpen, opening_notes};
 ghost use Rattle.pc_rule_law.specs.Seats.{maker, made_by};
 ghost use Rattle.pc_rule_law.specs.Tables.{size_of, note_of, first_view, sound_cells};
 ghost use Rattle.pc_rule.specs.Passes.{view, board_size, IsPassOf};
+ghost use Rattle.pc_rule.specs.Opened.{AreOpened};
 ghost use Rattle.pc_rule.specs.Starting.{all_posted};
 
 use crate::board::{Board, Pass};
@@ -62,5 +63,29 @@ impl<H: Shape> Board<H> {
             installs,
             shape: PhantomData,
         }
+    }
+
+    /// A board that opens, with all its passes: each has what was given in its notes, and the last one knows that it is.
+    fn open(
+        alloc: Global,
+        opening: &Opening,
+        posted: &[Posted],
+    ) -> Result<(Board<H>, Vec<Pass<H>>), AllocError>
+        requires small { (opening.now.slots ≤ 61000) × (opening.now.seats ≤ 32) × (opening.now.starts.attempt < 2 ^ 28) × (opening.now.starts.version < 2 ^ 60) }
+        requires may { MayOpen (sound_cells H.form opening.now) (size_of opening.now) (opening_cells opening.now.starts.version) (all_posted posted.now) }
+        requires given { map note_of opening.now.given.items ≡ opening_notes 0 (all_posted posted.now) }
+        ensures { IfOk result (λ r. (board_size r.0 ≡ size_of opening.now) × AreOpened r.0 opening.now r.1.items) }
+    {
+        let mut passes = Vec::with_capacity(alloc, opening.seats)?;
+        let (board, mut last) = Board::first(alloc, opening, posted)?;
+        let mut made = 0;
+        while made + 1 < opening.seats {
+            let next = board.another(&mut last, made + 1, opening.starts.install);
+            passes.push_reserved(last);
+            last = next;
+            made += 1;
+        }
+        passes.push_reserved(last);
+        Ok((board, passes))
     }
 }

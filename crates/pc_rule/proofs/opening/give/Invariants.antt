@@ -1,5 +1,5 @@
 -- What is put in so far, with what is still to come.
-use Rattle.std.proofs.Common.{◌≡◌, ℕ, ◌≤◌, ◌-◌, ◌++◌, length, map}
+use Rattle.std.proofs.Common.{◌≡◌, ◌≤◌, ◌-◌, ◌++◌, length, map}
 use Rattle.pc_rule_law.specs.Openings.{entries_of}
 use Rattle.pc_rule_law.specs.Tables.{note_of}
 use Rattle.pc_rule.specs.Starting.{change_of}
