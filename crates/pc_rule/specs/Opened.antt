@@ -4,6 +4,7 @@ use mathlib.Core.Option.{some}
 use lib.ListN.{get_elem?}
 use Rattle.pc_model.specs.declared.shape.Shape.{Ghosts}
 use Rattle.pc_rule_law.specs.declared.opening.Opening.{Opening}
+use Rattle.pc_rule_law.specs.Conditions.{IsFree}
 use Rattle.pc_rule_law.specs.Seats.{new_view, maker}
 use Rattle.pc_rule_law.specs.Tables.{size_of, note_of}
 use Rattle.pc_rule_law.specs.Views.{View}
@@ -24,3 +25,7 @@ module _ {H : Type 0} {S : Ghosts H} where
   abbrev pub AreOpened : Board H → Opening → List (Pass H S) → Type 0
   AreOpened b o passes = (length passes ≡ o.seats)
       × ((i : ℕ) (p : Pass H S) → get_elem? passes i ≡ some p → IsPassOf b p × (i + 1 < o.seats → view p ≡ maker (last_view o i)) × (i + 1 ≡ o.seats → view p ≡ last_view o i))
+
+  -- passes with the seats from 0 on, of which no install stands
+  abbrev pub AreInOrder : Board H → List (Pass H S) → Type 0
+  AreInOrder b passes = (i : ℕ) (p : Pass H S) → get_elem? passes i ≡ some p → IsPassOf b p × ((view p).seat ≡ i) × IsFree (view p)

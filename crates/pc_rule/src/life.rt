@@ -1,18 +1,19 @@
 //! How a board is opened with its passes.
-ghost use Rattle.std.specs.Prelude.{IfOk, true, ◌≡◌, ◌+◌, ◌<◌, ◌≤◌, ◌^◌, map};
+ghost use Rattle.std.specs.Prelude.{IfOk, true, ◌≡◌, ◌+◌, ◌<◌, ◌≤◌, ◌^◌, length, map};
 ghost use Rattle.pc_model.specs.Linked.{opening_cells};
+ghost use Rattle.pc_rule_law.specs.Conditions.{IsFree};
 ghost use Rattle.pc_rule_law.specs.Openings.{MayOpen, opening_notes};
-ghost use Rattle.pc_rule_law.specs.Seats.{maker, made_by};
+ghost use Rattle.pc_rule_law.specs.Seats.{maker, made_by, joined_by};
 ghost use Rattle.pc_rule_law.specs.Tables.{size_of, note_of, first_view, sound_cells};
 ghost use Rattle.pc_rule.specs.Passes.{view, board_size, IsPassOf};
-ghost use Rattle.pc_rule.specs.Opened.{AreOpened};
+ghost use Rattle.pc_rule.specs.Opened.{AreOpened, AreInOrder};
 ghost use Rattle.pc_rule.specs.Starting.{all_posted};
 
 use crate::board::{Board, Pass};
 use crate::opening::{Posted, words_start};
 use atomic_table::Table;
 use pc_model::Shape;
-use pc_rule_law::{Law, MakePass, Opening, PassView};
+use pc_rule_law::{JoinPass, Law, MakePass, Opening, PassView};
 use std::alloc::{AllocError, Global};
 use std::marker::PhantomData;
 
@@ -87,5 +88,27 @@ impl<H: Shape> Board<H> {
         }
         passes.push_reserved(last);
         Ok((board, passes))
+    }
+
+    /// The last pass takes in another, of which no install stands.
+    fn take_in(&self, last: &mut Pass<H>, other: Pass<H>)
+        requires passes { IsPassOf self.now last.old × IsPassOf self.now other }
+        requires rest { (view last.old).rest ≡ (view other).seat + 1 }
+        requires free { IsFree (view other) }
+        ensures pass { IsPassOf self.now last.new × (view last.new ≡ joined_by (view last.old) (view other)) }
+    {
+        let Pass { seat, .. } = other;
+        self.table.shared.join_seat::<JoinPass>(&mut last.seat, seat);
+    }
+
+    /// The last pass takes in all others, from the highest seat down.
+    fn take_all(&self, last: &mut Pass<H>, mut others: Vec<Pass<H>>)
+        requires last { IsPassOf self.now last.old × ((view last.old).rest ≡ length others.items) }
+        requires others { AreInOrder self.now others.items }
+        ensures pass { IsPassOf self.now last.new × (view last.new ≡ record (view last.old) { rest = 0 }) }
+    {
+        while let Some(other) = others.pop() {
+            self.take_in(last, other);
+        }
     }
 }
