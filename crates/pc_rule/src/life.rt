@@ -1,6 +1,8 @@
 //! How a board is opened with its passes.
 ghost use Rattle.std.specs.Prelude.{IfOk, true, ◌≡◌, ◌+◌, ◌<◌, ◌≤◌, ◌^◌, length, map};
 ghost use Rattle.pc_model.specs.Linked.{opening_cells};
+ghost use Rattle.std.specs.Mem.Slots.{slots_items};
+ghost use Rattle.pc_rule_law.specs.Closings.{IsClosed};
 ghost use Rattle.pc_rule_law.specs.Conditions.{IsFree};
 ghost use Rattle.pc_rule_law.specs.Openings.{MayOpen, opening_notes};
 ghost use Rattle.pc_rule_law.specs.Seats.{maker, made_by, joined_by};
@@ -11,7 +13,7 @@ ghost use Rattle.pc_rule.specs.Starting.{all_posted};
 
 use crate::board::{Board, Pass};
 use crate::opening::{Posted, words_start};
-use atomic_table::Table;
+use atomic_table::{Closed, Table};
 use pc_model::Shape;
 use pc_rule_law::{JoinPass, Law, MakePass, Opening, PassView};
 use std::alloc::{AllocError, Global};
@@ -98,7 +100,9 @@ impl<H: Shape> Board<H> {
         ensures pass { IsPassOf self.now last.new × (view last.new ≡ joined_by (view last.old) (view other)) }
     {
         let Pass { seat, .. } = other;
-        self.table.shared.join_seat::<JoinPass>(&mut last.seat, seat);
+        self.table
+            .shared
+            .join_seat::<JoinPass>(&mut last.seat, seat);
     }
 
     /// The last pass takes in all others, from the highest seat down.
@@ -110,5 +114,17 @@ impl<H: Shape> Board<H> {
         while let Some(other) = others.pop() {
             self.take_in(last, other);
         }
+    }
+
+    /// Ends the board, when the last pass has taken in all others and no install of its own stands: the words that are left
+    /// are those of a closed board.
+    fn end(self, last: Pass<H>) -> Closed<bool, Global>
+        requires pass { IsPassOf self last × ((view last).last ≡ true) × ((view last).rest ≡ 0) }
+        requires free { IsFree (view last) }
+        ensures { IsClosed (sound_cells H.form self.table.shared.key) (board_size self) (slots_items result.words) }
+    {
+        let Board { table, .. } = self;
+        let Pass { seat, .. } = last;
+        table.close_with(seat)
     }
 }

@@ -1,6 +1,5 @@
 -- What is left to be taken in, and the last pass as it was but for that.
-use Rattle.std.proofs.Common.{◌≡◌, ℕ, length}
-use Rattle.pc_rule_law.specs.Views.{View}
+use Rattle.std.proofs.Common.{◌≡◌, length}
 use Rattle.pc_rule.specs.Opened.{AreInOrder}
 use Rattle.pc_rule.specs.Passes.{view, IsPassOf}
 use Rattle.pc_rule.proofs.board.Board.take_all.Given as goal

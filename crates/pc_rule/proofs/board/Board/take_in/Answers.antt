@@ -1,4 +1,3 @@
-use Rattle.std.proofs.Common.{rules, ◌≡◌, ◌<◌, arith}
 use Rattle.pc_rule_law.specs.Board.{Size, at_clock}
 use Rattle.pc_rule_law.specs.Tables.{size_of, sound_cells}
 use Rattle.pc_rule_law.proofs.Places.{within}
