@@ -2,6 +2,8 @@ pub mod Ends
 pub mod Filling
 pub mod Giving
 pub mod Numbers
+pub mod Opened
+pub mod Sharing
 pub mod Starting
 pub mod Telling
 pub mod WordsAtOpening

@@ -1,4 +1,5 @@
 pub mod Conditions
 pub mod Opened
 pub mod Passes
+pub mod Shares
 pub mod Starting

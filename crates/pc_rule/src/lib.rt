@@ -4,11 +4,14 @@
 #![tactic(auto)]
 
 mod board;
+mod boards;
 mod life;
 mod opening;
 mod places;
 mod steps;
 
 pub use board::{Board, Pass};
+pub use boards::{Share, open_board, open_posted, usual_starts};
 pub use opening::{Place, Posted};
+pub use pc_rule_law::Starts;
 pub use steps::{step_3, step_4, step_5, step_6, step_7, step_8};

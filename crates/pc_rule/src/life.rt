@@ -69,7 +69,7 @@ impl<H: Shape> Board<H> {
     }
 
     /// A board that opens, with all its passes: each has what was given in its notes, and the last one knows that it is.
-    fn open(
+    pub(crate) fn open(
         alloc: Global,
         opening: &Opening,
         posted: &[Posted],
@@ -106,7 +106,7 @@ impl<H: Shape> Board<H> {
     }
 
     /// The last pass takes in all others, from the highest seat down.
-    fn take_all(&self, last: &mut Pass<H>, mut others: Vec<Pass<H>>)
+    pub(crate) fn take_all(&self, last: &mut Pass<H>, mut others: Vec<Pass<H>>)
         requires last { IsPassOf self.now last.old × ((view last.old).rest ≡ length others.items) }
         requires others { AreInOrder self.now others.items }
         ensures pass { IsPassOf self.now last.new × (view last.new ≡ record (view last.old) { rest = 0 }) }
@@ -118,7 +118,7 @@ impl<H: Shape> Board<H> {
 
     /// Ends the board, when the last pass has taken in all others and no install of its own stands: the words that are left
     /// are those of a closed board.
-    fn end(self, last: Pass<H>) -> Closed<bool, Global>
+    pub(crate) fn end(self, last: Pass<H>) -> Closed<bool, Global>
         requires pass { IsPassOf self last × ((view last).last ≡ true) × ((view last).rest ≡ 0) }
         requires free { IsFree (view last) }
         ensures { IsClosed (sound_cells H.form self.table.shared.key) (board_size self) (slots_items result.words) }

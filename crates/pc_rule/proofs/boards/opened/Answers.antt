@@ -1,0 +1,24 @@
+use Rattle.std.proofs.Common.{◌≡◌, ◌≤◌, ℕ, ◌^◌, ◌+◌, ◌<◌, length, refl, ap, arith}
+use Rattle.pc_model.specs.declared.cell.Field.{Field}
+use Rattle.pc_model.specs.Linked.{opening_cells}
+use Rattle.pc_rule.specs.Starting.{posted_of, all_posted}
+use Rattle.pc_rule.proofs.Opened.{all_opened, all_noted}
+use Rattle.pc_rule.proofs.Sharing.{length_map, all_formed, small_cells}
+use Rattle.pc_rule_law.specs.declared.opening.Opening.{Opening}
+use Rattle.pc_rule.proofs.boards.opened.Goals as goal
+
+pub open-requires-clause-may : goal.open-requires-clause-may
+open-requires-clause-may g c = λ _ _. let r = c.requires in record {
+  seats = (let one = r.shares.0 in omega arith, r.shares.1);
+  sound_cells = rw c.all_slots.ensures (r.sound, λ n f. refl);
+  small = small_cells c.args.starts.version (let le = r.starts.version.0 in omega arith);
+  attempt = (let lt = r.starts.attempt in omega arith);
+  few = (let n : length (all_posted c.args.posted.now) ≡ length c.args.posted.now = length_map posted_of c.args.posted.now in let le = r.posted.0 in omega arith);
+  formed = all_formed c.all_slots.result c.args.posted.now r.posted.1;
+}
+
+pub returns-clause-passes : goal.returns-clause-passes
+returns-clause-passes g c = let e = c.in-Ok-open.ensures in all_opened c.in-Ok-open.made.0 (record { seats = length c.args.shares.now; slots = c.all_slots.result; starts = c.args.starts; given = c.in-Ok.given }) c.in-Ok-open.made.1.items e.1 e.0
+
+pub returns-clause-notes : goal.returns-clause-notes
+returns-clause-notes g c = let e = c.in-Ok-open.ensures in all_noted c.in-Ok-open.made.0 (record { seats = length c.args.shares.now; slots = c.all_slots.result; starts = c.args.starts; given = c.in-Ok.given }) c.in-Ok-open.made.1.items e.1 _ c.in-Ok.ensures

@@ -1,0 +1,58 @@
+-- What is asked of the opening of a board, and what its passes are then and at the closing.
+use Rattle.std.specs.Prelude.{◌≡◌, ℕ, ◌+◌, ◌^◌, ◌<◌, ◌≤◌, true, List, [], ◌∷◌, length}
+use mathlib.Core.Option.{some}
+use lib.ListN.{get_elem?}
+use Rattle.pc_model.specs.declared.shape.Shape.{Ghosts}
+use Rattle.pc_model.specs.Cells.{IsEven}
+use Rattle.pc_rule_law.specs.declared.opening.Starts.{Starts}
+use Rattle.pc_rule_law.specs.Board.{Size}
+use Rattle.pc_rule_law.specs.Openings.{opening_notes}
+use Rattle.pc_rule_law.specs.Views.{Note}
+use Rattle.pc_rule.specs.declared.board.Board.{Board}
+use Rattle.pc_rule.specs.declared.board.Pass.{Pass}
+use Rattle.pc_rule.specs.declared.opening.Place.{Place}
+use Rattle.pc_rule.specs.declared.opening.Posted.{Posted}
+use Rattle.pc_rule.specs.declared.boards.Share.{Share}
+use Rattle.pc_rule.specs.Passes.{view, board_size}
+use Rattle.pc_rule.specs.Opened.{AreInOrder}
+
+-- all passes' slots together
+abbrev pub slots_of : List Share → ℕ
+slots_of [] = 0
+slots_of (share ∷ shares) = share.slots + slots_of shares
+
+-- the size of the board for these shares, with these starts
+abbrev pub size_for : List Share → Starts → Size
+size_for shares s = record { seats = length shares; slots = slots_of shares; starts = record { attempt = s.attempt; install = s.install; stamp = s.stamp; epoch = s.epoch; version = s.version } }
+
+-- each counter starts at most at its last value, the epoch at least at 1, and the version is even
+pub record AreStarts (s : Starts) : Type 0 where
+  pub attempt : s.attempt < 2 ^ 28
+  pub install : s.install < 2 ^ 54
+  pub stamp : s.stamp < 2 ^ 34
+  pub epoch : (1 ≤ s.epoch) × (s.epoch ≤ 2 ^ 60)
+  pub version : (s.version + 6 ≤ 2 ^ 60) × IsEven s.version
+
+-- at most 24 changes of the sentinel, each of another field, with numbers that fit a word
+pub record IsForSentinel (places : List Place) : Type 0 where
+  pub few : length places ≤ 24
+  pub each : (i : ℕ) (p : Place) → get_elem? places i ≡ some p → (p.node ≡ 1) × (p.old < 2 ^ 62) × (p.new < 2 ^ 62)
+  pub apart : (i j : ℕ) (p q : Place) → get_elem? places i ≡ some p → get_elem? places j ≡ some q → p.field ≡ q.field → i ≡ j
+
+abbrev pub AreForSentinel : List Posted → Type 0
+AreForSentinel posted = (i : ℕ) (x : Posted) → get_elem? posted i ≡ some x → IsForSentinel x.places.items
+
+module _ {H : Type 0} {S : Ghosts H} where
+  -- the pass with the highest seat takes in all others at the closing
+  abbrev pub LastTakesAll : Board H → List (Pass H S) → Type 0
+  LastTakesAll b passes = (i : ℕ) (p : Pass H S) → get_elem? passes i ≡ some p → i + 1 ≡ (board_size b).seats → ((view p).last ≡ true) × ((view p).rest ≡ i)
+
+  -- all passes of the board, in order, and of none does an install stand
+  pub record AreAll (b : Board H) (passes : List (Pass H S)) : Type 0 where
+    pub count : length passes ≡ (board_size b).seats
+    pub order : AreInOrder b passes
+    pub last : LastTakesAll b passes
+
+  -- each pass has these notes and no others
+  abbrev pub AllNoted : List (Pass H S) → List Note → Type 0
+  AllNoted passes notes = (i : ℕ) (p : Pass H S) → get_elem? passes i ≡ some p → (view p).notes ≡ notes
