@@ -3,6 +3,7 @@ pub mod Filling
 pub mod Giving
 pub mod Numbers
 pub mod Opened
+pub mod Remaining
 pub mod Sharing
 pub mod Starting
 pub mod Telling

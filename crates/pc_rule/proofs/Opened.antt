@@ -30,8 +30,9 @@ module _ {H : Type 0} {S : Ghosts H} (b : Board H) (o : Opening) (passes : List 
       (λ e. let is : view p ≡ last_view o i = q.2 e in record { seat = ap (λ (v : View). v.seat) is; fresh = ap (λ (v : View). v.fresh) is; notes = ap (λ (v : View). v.notes) is; })
       (λ ne. let is : view p ≡ maker (last_view o i) = q.1 (omega arith) in record { seat = ap (λ (v : View). v.seat) is; fresh = ap (λ (v : View). v.fresh) is; notes = ap (λ (v : View). v.notes) is; })
 
-  pub all_opened : board_size b ≡ size_of o → AreAll b passes
-  all_opened sized = let seats : (board_size b).seats ≡ o.seats = ap (λ (z : Size). z.seats) sized in record {
+  pub all_opened : 0 < o.seats → board_size b ≡ size_of o → AreAll b passes
+  all_opened one sized = let seats : (board_size b).seats ≡ o.seats = ap (λ (z : Size). z.seats) sized in record {
+    some = rw seats one;
     count = opened.0 ∙ sym seats;
     order = λ i p at. let is = each_new i p at in ((opened.1 i p at).0, is.seat, inl is.fresh);
     last = λ i p at e. let is : view p ≡ last_view o i = (opened.1 i p at).2 (e ∙ seats) in (ap (λ (v : View). v.last) is, ap (λ (v : View). v.rest) is);

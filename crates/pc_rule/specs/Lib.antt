@@ -1,5 +1,7 @@
+pub mod Closed
 pub mod Conditions
 pub mod Opened
 pub mod Passes
 pub mod Shares
+pub mod Sizes
 pub mod Starting

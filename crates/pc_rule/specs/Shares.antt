@@ -49,6 +49,7 @@ module _ {H : Type 0} {S : Ghosts H} where
 
   -- all passes of the board, in order, and of none does an install stand
   pub record AreAll (b : Board H) (passes : List (Pass H S)) : Type 0 where
+    pub some : 0 < (board_size b).seats
     pub count : length passes ≡ (board_size b).seats
     pub order : AreInOrder b passes
     pub last : LastTakesAll b passes

@@ -4,8 +4,8 @@ ghost use Rattle.pc_rule_law.specs.Board.{words_of};
 ghost use Rattle.pc_rule_law.specs.Tables.{size_of};
 
 use atomic_table::{Seat, Table};
-use pc_model::Shape;
-use pc_rule_law::{Law, Opening, PassView};
+use pc_model::{Entry, Shape};
+use pc_rule_law::{Law, Opening, PassView, Starts};
 use std::alloc::Global;
 use std::marker::PhantomData;
 
@@ -15,6 +15,10 @@ pub struct Board<H: Shape> {
     pub(crate) table: Table<bool, PassView, Opening, Law<H>, Global>,
     pub(crate) seats: usize,
     pub(crate) slots: usize,
+    pub(crate) starts: Starts,
+    pub(crate) entries: Vec<Entry>,
+    ghost unrecorded: { entries.items ≡ [] },
+    ghost started: { starts ≡ table.shared.key.starts },
     ghost sized: { (seats ≡ table.shared.key.seats) × (slots ≡ table.shared.key.slots) },
     ghost wide: { (table.shared.table_id.words ≡ words_of (size_of table.shared.key)) × (table.shared.table_id.slots ≡ 0) },
     ghost small: { (seats ≤ 32) × (slots ≤ 61000) },

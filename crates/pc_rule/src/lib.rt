@@ -5,6 +5,8 @@
 
 mod board;
 mod boards;
+mod closed;
+mod closing;
 mod life;
 mod opening;
 mod places;
@@ -12,6 +14,8 @@ mod steps;
 
 pub use board::{Board, Pass};
 pub use boards::{Share, open_board, open_posted, usual_starts};
+pub use closed::Closed;
+pub use closing::close_board;
 pub use opening::{Place, Posted};
 pub use pc_rule_law::Starts;
 pub use steps::{step_3, step_4, step_5, step_6, step_7, step_8};

@@ -1,7 +1,8 @@
 //! How a board is opened with its passes.
-ghost use Rattle.std.specs.Prelude.{IfOk, true, ◌≡◌, ◌+◌, ◌<◌, ◌≤◌, ◌^◌, length, map};
+ghost use Rattle.std.specs.Prelude.{IfOk, true, [], ◌≡◌, ◌+◌, ◌<◌, ◌≤◌, ◌^◌, length, map};
 ghost use Rattle.pc_model.specs.Linked.{opening_cells};
-ghost use Rattle.std.specs.Mem.Slots.{slots_items};
+ghost use Rattle.std.specs.Mem.Slots.{slots_items, slots_len, IsFull};
+ghost use Rattle.pc_rule_law.specs.Board.{words_of};
 ghost use Rattle.pc_rule_law.specs.Closings.{IsClosed};
 ghost use Rattle.pc_rule_law.specs.Conditions.{IsFree};
 ghost use Rattle.pc_rule_law.specs.Openings.{MayOpen, opening_notes};
@@ -14,7 +15,7 @@ ghost use Rattle.pc_rule.specs.Starting.{all_posted};
 use crate::board::{Board, Pass};
 use crate::opening::{Posted, words_start};
 use atomic_table::{Closed, Table};
-use pc_model::Shape;
+use pc_model::{Entry, Shape};
 use pc_rule_law::{JoinPass, Law, MakePass, Opening, PassView};
 use std::alloc::{AllocError, Global};
 use std::marker::PhantomData;
@@ -41,6 +42,8 @@ impl<H: Shape> Board<H> {
             table,
             seats: opening.seats,
             slots: opening.slots,
+            starts: opening.starts,
+            entries: Vec::new(alloc),
         };
         let pass = Pass {
             seat,
@@ -118,13 +121,15 @@ impl<H: Shape> Board<H> {
 
     /// Ends the board, when the last pass has taken in all others and no install of its own stands: the words that are left
     /// are those of a closed board.
-    pub(crate) fn end(self, last: Pass<H>) -> Closed<bool, Global>
+    pub(crate) fn end(self, last: Pass<H>) -> (Closed<bool, Global>, Vec<Entry>)
         requires pass { IsPassOf self last × ((view last).last ≡ true) × ((view last).rest ≡ 0) }
         requires free { IsFree (view last) }
-        ensures { IsClosed (sound_cells H.form self.table.shared.key) (board_size self) (slots_items result.words) }
+        ensures closed { IsClosed (sound_cells H.form self.table.shared.key) (board_size self) (slots_items result.0.words) }
+        ensures laid { IsFull result.0.words × (slots_len result.0.words ≡ words_of (board_size self)) × (slots_len result.0.slots ≡ 0) }
+        ensures unrecorded { result.1.items ≡ [] }
     {
-        let Board { table, .. } = self;
+        let Board { table, entries, .. } = self;
         let Pass { seat, .. } = last;
-        table.close_with(seat)
+        (table.close_with(seat), entries)
     }
 }

@@ -18,7 +18,7 @@ open-requires-clause-may g c = λ _ _. let r = c.requires in record {
 }
 
 pub returns-clause-passes : goal.returns-clause-passes
-returns-clause-passes g c = let e = c.in-Ok-open.ensures in all_opened c.in-Ok-open.made.0 (record { seats = length c.args.shares.now; slots = c.all_slots.result; starts = c.args.starts; given = c.in-Ok.given }) c.in-Ok-open.made.1.items e.1 e.0
+returns-clause-passes g c = let e = c.in-Ok-open.ensures in all_opened c.in-Ok-open.made.0 (record { seats = length c.args.shares.now; slots = c.all_slots.result; starts = c.args.starts; given = c.in-Ok.given }) c.in-Ok-open.made.1.items e.1 (let one = c.requires.shares.0 in omega arith) e.0
 
 pub returns-clause-notes : goal.returns-clause-notes
 returns-clause-notes g c = let e = c.in-Ok-open.ensures in all_noted c.in-Ok-open.made.0 (record { seats = length c.args.shares.now; slots = c.all_slots.result; starts = c.args.starts; given = c.in-Ok.given }) c.in-Ok-open.made.1.items e.1 _ c.in-Ok.ensures

@@ -1,0 +1,10 @@
+-- The size of a board that was closed.
+use Rattle.pc_model.specs.declared.shape.Shape.{Ghosts}
+use Rattle.pc_rule_law.specs.Board.{Size}
+use Rattle.pc_rule.specs.declared.closed.Closed.{Closed}
+use Rattle.pc_rule.specs.Sizes.{size_from}
+
+module _ {H : Type 0} {S : Ghosts H} where
+  -- the size of the board that was closed
+  abbrev pub closed_size : Closed H S → Size
+  closed_size c = size_from c.seats c.slots c.starts
