@@ -27,8 +27,8 @@ record IsNew (o : Opening) (i : ℕ) (v : View) : Type 0 where
 module _ {H : Type 0} {S : Ghosts H} (b : Board H) (o : Opening) (passes : List (Pass H S)) (opened : AreOpened b o passes) where
   each_new : (i : ℕ) (p : Pass H S) → get_elem? passes i ≡ some p → IsNew o i (view p)
   each_new i p at = let q = opened.1 i p at in let lt : i < length passes = below_length passes i p at in let n : length passes ≡ o.seats = opened.0 in dite (ℕ_discrete (i + 1) o.seats)
-      (λ e. let is : view p ≡ last_view o i = q.2 e in record { seat = ap (λ (v : View). v.seat) is; fresh = ap (λ (v : View). v.fresh) is; notes = ap (λ (v : View). v.notes) is; })
-      (λ ne. let is : view p ≡ maker (last_view o i) = q.1 (omega arith) in record { seat = ap (λ (v : View). v.seat) is; fresh = ap (λ (v : View). v.fresh) is; notes = ap (λ (v : View). v.notes) is; })
+      (λ e. let is : view p ≡ last_view o i = q.2 e in record { seat = ap (λ (v : View). v.seat) is; fresh = ap (λ (v : View). v.fresh) is; notes = ap (λ (v : View). v.notes) is })
+      (λ ne. let is : view p ≡ maker (last_view o i) = q.1 (omega arith) in record { seat = ap (λ (v : View). v.seat) is; fresh = ap (λ (v : View). v.fresh) is; notes = ap (λ (v : View). v.notes) is })
 
   pub all_opened : 0 < o.seats → board_size b ≡ size_of o → AreAll b passes
   all_opened one sized = let seats : (board_size b).seats ≡ o.seats = ap (λ (z : Size). z.seats) sized in record {

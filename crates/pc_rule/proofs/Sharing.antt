@@ -33,10 +33,11 @@ one_formed slots l is = record {
   few = (let n : length (map change_of l) ≡ length l = length_map change_of l in let le = is.few in omega arith);
   few_visits = omega arith;
   inside = λ x h. let c = from_map change_of l h.0 x h.1 in let e = is.each h.0 c.0 c.1 in
-      let node : c.0.node ≡ x.node = ap (λ (u : Changed). u.node) c.2 in
-      ((let at = e.0 in omega arith, let at = e.0 in omega arith),
+      let node : c.0.node ≡ x.node = ap (λ (u : Changed). u.node) c.2 in (
+        (let at = e.0 in omega arith, let at = e.0 in omega arith),
         subst (λ (k : ℕ). k < 2 ^ 62) (ap (λ (u : Changed). u.old) c.2) e.1,
-        subst (λ (k : ℕ). k < 2 ^ 62) (ap (λ (u : Changed). u.new) c.2) e.2);
+        subst (λ (k : ℕ). k < 2 ^ 62) (ap (λ (u : Changed). u.new) c.2) e.2,
+      );
   apart = λ i j x y at_x at_y _ same. let c = from_map change_of l i x at_x in let d = from_map change_of l j y at_y in
       is.apart i j c.0 d.0 c.1 d.1 (ap (λ (u : Changed). u.field) c.2 ∙ (same ∙ sym (ap (λ (u : Changed). u.field) d.2)));
 }

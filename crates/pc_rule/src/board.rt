@@ -1,5 +1,5 @@
 //! The board, and what a pass steps on it with.
-ghost use Rattle.std.specs.Prelude.{◌≡◌, ◌≤◌, [], true};
+ghost use Rattle.std.specs.Prelude.{◌≡◌, ◌<◌, ◌≤◌, [], true};
 ghost use Rattle.pc_rule_law.specs.Board.{words_of};
 ghost use Rattle.pc_rule_law.specs.Tables.{size_of};
 
@@ -35,4 +35,5 @@ pub struct Pass<H: Shape> {
     ghost numbered: { seat.me.0.seat ≡ index },
     ghost counted: { seat.me.0.install.number ≡ installs },
     ghost holds_none: { seat.me.1 ≡ [] },
+    ghost few: { index < 32 },
 }

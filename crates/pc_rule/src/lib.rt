@@ -8,6 +8,7 @@ mod boards;
 mod closed;
 mod closing;
 mod life;
+mod numbered;
 mod opening;
 mod places;
 mod steps;

@@ -9,9 +9,10 @@ use Rattle.pc_rule.proofs.closing.close_board.Goals as goal
 
 pub take_all-requires-clause-last : goal.take_all-requires-clause-last
 take_all-requires-clause-last g c = λ _ _. let all = c.requires.passes in let b = c.args.board in let front = c.pop.new.self.items in let items = c.in-Some.ensures.items in let w = c.in-Some.last in
-    let n : length c.args.passes.items ≡ length front + 1 = search rules in
-    ((each_last c.args.passes.items front w (λ i p. IsPassOf b p × ((view p).seat ≡ i) × IsFree (view p)) items all.order).0,
-      (each_last c.args.passes.items front w (λ i p. i + 1 ≡ (board_size b).seats → ((view p).last ≡ true) × ((view p).rest ≡ i)) items all.last (sym n ∙ all.count)).1)
+    let n : length c.args.passes.items ≡ length front + 1 = search rules in (
+      (each_last c.args.passes.items front w (λ i p. IsPassOf b p × ((view p).seat ≡ i) × IsFree (view p)) items all.order).0,
+      (each_last c.args.passes.items front w (λ i p. i + 1 ≡ (board_size b).seats → ((view p).last ≡ true) × ((view p).rest ≡ i)) items all.last (sym n ∙ all.count)).1,
+    )
 
 pub take_all-requires-clause-others : goal.take_all-requires-clause-others
 take_all-requires-clause-others g c = λ _ _. let b = c.args.board in
@@ -19,10 +20,11 @@ take_all-requires-clause-others g c = λ _ _. let b = c.args.board in
 
 pub end-table-requires-clause-pass : goal.end-table-requires-clause-pass
 end-table-requires-clause-pass g c = λ _ _. let all = c.requires.passes in let b = c.args.board in let front = c.pop.new.self.items in let items = c.in-Some.ensures.items in let took = c.take_all.ensures.pass in
-    let n : length c.args.passes.items ≡ length front + 1 = search rules in
-    (took.0,
+    let n : length c.args.passes.items ≡ length front + 1 = search rules in (
+      took.0,
       ap (λ (v : View). v.last) took.1 ∙ (each_last c.args.passes.items front c.in-Some.last (λ i p. i + 1 ≡ (board_size b).seats → ((view p).last ≡ true) × ((view p).rest ≡ i)) items all.last (sym n ∙ all.count)).0,
-      ap (λ (v : View). v.rest) took.1)
+      ap (λ (v : View). v.rest) took.1,
+    )
 
 pub end-table-requires-clause-free : goal.end-table-requires-clause-free
 end-table-requires-clause-free g c = λ _ _. let b = c.args.board in
