@@ -1,3 +1,4 @@
+pub mod Boards
 pub mod Ends
 pub mod Filling
 pub mod Giving

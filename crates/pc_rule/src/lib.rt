@@ -10,7 +10,9 @@ mod closing;
 mod life;
 mod numbered;
 mod opening;
+mod own;
 mod places;
+mod refs;
 mod steps;
 
 pub use board::{Board, Pass};
@@ -19,4 +21,5 @@ pub use closed::Closed;
 pub use closing::close_board;
 pub use opening::{Place, Posted};
 pub use pc_rule_law::Starts;
+pub use refs::{Ref, RefKind};
 pub use steps::{step_3, step_4, step_5, step_6, step_7, step_8};

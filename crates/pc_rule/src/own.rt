@@ -1,0 +1,26 @@
+//! What a pass knows of itself.
+ghost use Rattle.std.specs.Prelude.{◌≡◌, ◌<◌};
+ghost use Rattle.pc_rule.specs.Passes.{view, IsPassOf};
+
+use crate::board::{Board, Pass};
+use pc_model::Shape;
+
+impl<H: Shape> Pass<H> {
+    /// The number of its last install.
+    pub fn installs(&self) -> u64
+        ensures { result ≡ (view self.now).install.number }
+    {
+        self.installs
+    }
+}
+
+impl<H: Shape> Board<H> {
+    /// The seat of one of the board's passes, from 0.
+    pub fn seat_of(&self, pass: &Pass<H>) -> u32
+        requires { IsPassOf self.now pass.now }
+        ensures seat { result ≡ (view pass.now).seat }
+        ensures small { result < 32 }
+    {
+        pass.index as u32
+    }
+}
