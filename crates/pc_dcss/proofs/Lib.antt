@@ -1,0 +1,4 @@
+pub mod Staying
+pub mod Known
+pub mod Loads
+pub mod Takes
