@@ -2,3 +2,4 @@ pub mod Staying
 pub mod Known
 pub mod Loads
 pub mod Takes
+pub mod Puts

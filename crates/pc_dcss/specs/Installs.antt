@@ -1,13 +1,18 @@
 -- What clauses say of installs, by what a pass has noted.
-use Rattle.std.specs.Prelude.{◌≡◌, ◌≢◌, ℕ, ◌+◌, ◌^◌, ◌<◌}
+use Rattle.std.specs.Prelude.{◌≡◌, ◌≢◌, ℕ, ◌+◌, ◌-◌, ◌^◌, ◌<◌, ◌≤◌, true}
 use Rattle.pc_model.specs.declared.cell.Field.{Field}
 use Rattle.pc_model.specs.declared.numbers.Numbers.{Numbers}
 use Rattle.pc_model.specs.Cells.{IsNode}
-use Rattle.pc_words.specs.declared.word.WordKind.TheVariants.{Exchange}
+use Rattle.pc_words.specs.declared.word.WordKind.{WordKind}
+use Rattle.pc_words.specs.declared.word.WordKind.TheVariants.{Install, Exchange}
 use Rattle.pc_words.specs.Words.{raw}
 use Rattle.pc_rule_law.specs.Board.{Size, place_number}
-use Rattle.pc_rule_law.specs.Past.{Has}
-use Rattle.pc_rule_law.specs.Views.{View, placed, install_word, decided_below, IsInstall, IsAttempt}
+use Rattle.pc_rule_law.specs.Past.{Has, change}
+use Rattle.pc_rule_law.specs.Views.{Note, OwnInstall, View, entry, placed, install_word, decided_below, held, IsInstall, IsAttempt}
+use Rattle.pc_model.specs.declared.cell.Counter.TheVariants.{Install as Installs}
+use Rattle.pc_rule.specs.declared.opening.Place.{Place}
+use Rattle.pc_rule.specs.declared.refs.RefKind.{RefKind}
+use Rattle.pc_rule.specs.declared.refs.RefKind.TheVariants.{Install as AnInstall, Exchange as AnExchange}
 use Rattle.pc_rule.specs.declared.refs.Ref.{Ref}
 use Rattle.pc_dcss.specs.declared.installed.Installed.{Installed}
 use Rattle.pc_dcss.specs.declared.installed.Installed.TheVariants.{Held, Decided, Differs, Met, Numbers as OutOfNumbers}
@@ -34,6 +39,65 @@ pub record KnowsWords (z : Size) (v : View) (q k p a n : ℕ) (f : Field) (x : �
 abbrev pub KnowsNumbers : View → ℕ → ℕ → ℕ → ℕ → ℕ → Type 0
 KnowsNumbers v q k op place old = Has v.notes (install_word q k 1 op) × Has v.notes (install_word q k 2 place)
     × Has v.notes (install_word q k 3 old)
+
+-- the last number of an install
+abbrev pub last_install : ℕ
+last_install = 2 ^ 54 - 1
+
+-- the exchange is known to change this word from the old value
+abbrev pub KnowsPlace : View → Ref → Place → Type 0
+KnowsPlace v op place = Has v.notes (entry op.seat op.number (change place.node place.field place.old place.new))
+
+-- the word of a reference, and what is noted of a word that holds it
+abbrev pub word_of : RefKind → ℕ → ℕ → WordKind
+word_of AnInstall seat number = Install seat number
+word_of AnExchange seat number = Exchange seat number
+
+abbrev pub met_note : RefKind → ℕ → ℕ → ℕ → Field → Note
+met_note AnInstall seat number n f = placed seat number n f
+met_note AnExchange seat number n f = held seat number n f
+
+-- neither the reference of op nor that of an install of the pass at this seat
+abbrev pub IsOther : RefKind → ℕ → ℕ → ℕ → Ref → Type 0
+IsOther AnInstall seat number own op = seat ≢ own
+IsOther AnExchange seat number own op = seat ≡ op.seat → number ≢ op.number
+
+-- the pass met this reference in the word, and it is another's
+abbrev pub IsMet : View → Ref → Place → Ref → Type 0
+IsMet v op place r = Has v.notes (met_note r.kind r.seat r.number place.node place.field)
+    × IsOther r.kind r.seat r.number v.seat op
+
+-- the install number stands at its last value, and the pass knows what it knew
+abbrev pub HasNoNumber : View → View → Numbers → Type 0
+HasNoNumber v w n = (n.counter ≡ Installs) × (n.at ≡ v.install.number) × (last_install ≤ n.at) × (w ≡ v)
+
+-- the pass knows what it knew, and maybe more
+abbrev pub KeepsNotes : View → View → Type 0
+KeepsNotes v w = (x : Note) → Has v.notes x → Has w.notes x
+
+-- the view with these words in the own install descriptor, and a fresh number
+abbrev pub described : View → ℕ → ℕ → ℕ → ℕ → View
+described v number op place old = record v { install = record { number = number; op = op; place = place; old = old }; fresh = true }
+
+-- the own install descriptor is ready: its number is fresh, and it is for op and this place
+pub record IsReady (v : View) (own op : Ref) (place : Place) : Type 0 where
+  pub kind : own.kind ≡ AnInstall
+  pub seat : own.seat ≡ v.seat
+  pub number : own.number ≡ v.install.number
+  pub small : own.number < 2 ^ 54
+  pub fresh : v.fresh ≡ true
+  pub op_word : v.install.op ≡ raw (Exchange op.seat op.number)
+  pub place_word : v.install.place ≡ place_number place.node place.field
+  pub old_word : v.install.old ≡ place.old
+  pub listed : KnowsPlace v op place
+
+-- own is the reference of the pass's last install. It stood in this word, for op
+pub record IsPlaced (z : Size) (w : View) (own op : Ref) (place : Place) : Type 0 where
+  pub kind : own.kind ≡ AnInstall
+  pub seat : own.seat ≡ w.seat
+  pub number : own.number ≡ w.install.number
+  pub met : Has w.notes (placed own.seat own.number place.node place.field)
+  pub words : KnowsWords z w own.seat own.number op.seat op.number place.node place.field place.old
 
 -- X holds where this is the answer
 abbrev pub OnHeld : Installed → Type 0 → Type 0

@@ -7,9 +7,11 @@
 mod completing;
 mod descriptor;
 mod installed;
+mod installing;
 mod taking;
 
 
 pub use completing::complete;
 pub use installed::Installed;
+pub use installing::{install, place_install};
 pub use pc_rule::{Place, Ref, RefKind};

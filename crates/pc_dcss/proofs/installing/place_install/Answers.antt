@@ -1,0 +1,17 @@
+-- What is known of the exchange bounds its numbers, and a descriptor's words are no notes.
+use Rattle.std.proofs.Common.{◌≡◌, ◌<◌, ◌^◌, ℕ, sym, subst, arith}
+use Rattle.pc_rule_law.specs.Past.{Has}
+use Rattle.pc_rule_law.specs.Views.{View}
+use Rattle.pc_rule.specs.Passes.{view, board_size}
+use Rattle.pc_rule.proofs.Boards.{few_seats}
+use Rattle.pc_dcss.proofs.Staying.{notes_ranged}
+use Rattle.pc_dcss.proofs.Puts.{place_ranged}
+use Rattle.pc_dcss.proofs.installing.place_install.Goals as goal
+
+pub describe-requires-clause-op : goal.describe-requires-clause-op
+describe-requires-clause-op g c κs within = let b = c.args.board.now in let p = c.args.pass.now in let few = few_seats b in
+    let r = (place_ranged (board_size b) (view p) (notes_ranged b p c.requires.pass) c.args.op c.args.place c.requires.place).0 in
+    ((let s = r.0 in omega arith), r.1)
+
+pub returns-clause-keeps : goal.returns-clause-keeps
+returns-clause-keeps g c x h = c.put_install.ensures.keeps x (subst (λ (u : View). Has u.notes x) (sym c.describe.ensures.told) h)
