@@ -1,8 +1,7 @@
 -- What four loads of an install's descriptor tell, its number last.
 use Rattle.std.proofs.Common.{◌≡◌, ◌≢◌, ℕ, ◌+◌, ◌-◌, sym, subst, refl, arith}
-use Rattle.pc_model.specs.declared.cell.Field.{Field}
 use Rattle.pc_rule_law.specs.Past.{Has}
-use Rattle.pc_rule_law.specs.Views.{View, placed, loaded, install_word, removed}
+use Rattle.pc_rule_law.specs.Views.{View, placed, loaded, removed}
 use Rattle.pc_rule_law.specs.Plays.{IsLater, InstallLoaded}
 use Rattle.pc_dcss.specs.Installs.{HasMet, KnowsNumbers}
 use Rattle.pc_dcss.proofs.Staying.{later_then}

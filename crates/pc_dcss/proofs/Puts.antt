@@ -1,16 +1,22 @@
 -- What the placing of the own install tells.
-use Rattle.std.proofs.Common.{◌≡◌, ℕ, zero, suc, ◌<◌, ◌^◌, List, ◌++◌, sym, ap, ◌∙◌, subst, refl, arith}
+use Rattle.std.proofs.Common.{◌≡◌, ℕ, ◌<◌, ◌≢◌, List, [], ◌∷◌, ◌++◌, sym, ap, ◌∙◌, subst, refl, arith}
 use Rattle.pc_model.specs.declared.cell.Field.{Field}
-use Rattle.pc_words.specs.declared.word.WordKind.TheVariants.{Install, Exchange}
-use Rattle.pc_words.specs.Words.{raw}
+use Rattle.pc_words.specs.declared.word.WordKind.{WordKind}
+use Rattle.pc_words.specs.declared.word.WordKind.TheVariants.{Plain, Install, Exchange}
+use Rattle.pc_words.specs.Words.{raw, kind, IsWord}
+use Rattle.pc_words.proofs.Words.{raw_kind}
 use Rattle.pc_rule_law.specs.Board.{Size, place_number}
 use Rattle.pc_rule_law.specs.Past.{Has, change}
-use Rattle.pc_rule_law.specs.Views.{Note, View, entry, placed, install_word, NoteInRange, AllNotes}
-use Rattle.pc_rule_law.specs.Plays.{own_notes, after_place, after_store}
+use Rattle.pc_rule_law.specs.Views.{Note, View, entry, placed, install_word, NoteInRange, AllNotes, with_notes}
+use Rattle.pc_rule_law.specs.Plays.{own_notes, after_place, found}
 use Rattle.pc_rule_law.proofs.Lists.{has_right}
 use Rattle.pc_rule.specs.declared.opening.Place.{Place}
+use Rattle.pc_rule.specs.declared.refs.RefKind.{RefKind}
+use Rattle.pc_rule.specs.declared.refs.RefKind.TheVariants.{Install as AnInstall, Exchange as AnExchange}
 use Rattle.pc_rule.specs.declared.refs.Ref.{Ref}
-use Rattle.pc_dcss.specs.Installs.{KnowsPlace, KeepsNotes, IsReady, IsPlaced}
+use Rattle.pc_dcss.specs.Installs.{KnowsPlace, KeepsNotes, IsReady, IsPlaced, word_of, met_note, IsOther, IsMet, IsDifferent, IfMet, IfDiffers}
+use Rattle.pc_dcss.specs.declared.installed.Installed.{Installed}
+use Rattle.pc_dcss.specs.declared.installed.Installed.TheVariants.{Held, Decided, Differs, Met, Numbers as OutOfNumbers}
 
 pub install_again : (q k s n r : ℕ) → q ≡ s → k ≡ n → r ≡ raw (Install q k) → r ≡ raw (Install s n)
 install_again q k s n r a b e = omega arith
@@ -31,26 +37,26 @@ module _ (z : Size) (v w : View) (own op : Ref) (place : Place) (ready : IsReady
   met_own : Has w.notes (placed own.seat own.number place.node place.field)
   unfolding notes_are
   met_own = let s = ready.seat in let k = ready.number in
-    let e : placed v.seat v.install.number place.node place.field ≡ placed own.seat own.number place.node place.field = cc in
-    subst (Has w.notes) e (subst (λ xs. Has xs (placed v.seat v.install.number place.node place.field)) (sym notes_are) (0, refl))
+      let e : placed v.seat v.install.number place.node place.field ≡ placed own.seat own.number place.node place.field = cc in
+      subst (Has w.notes) e (subst (λ xs. Has xs (placed v.seat v.install.number place.node place.field)) (sym notes_are) (0, refl))
 
   op_own : Has w.notes (install_word own.seat own.number 1 (raw (Exchange op.seat op.number)))
   unfolding notes_are
   op_own = let s = ready.seat in let k = ready.number in let o = ready.op_word in
-    let e : install_word v.seat v.install.number 1 v.install.op ≡ install_word own.seat own.number 1 (raw (Exchange op.seat op.number)) = cc in
-    subst (Has w.notes) e (subst (λ xs. Has xs (install_word v.seat v.install.number 1 v.install.op)) (sym notes_are) (1, refl))
+      let e : install_word v.seat v.install.number 1 v.install.op ≡ install_word own.seat own.number 1 (raw (Exchange op.seat op.number)) = cc in
+      subst (Has w.notes) e (subst (λ xs. Has xs (install_word v.seat v.install.number 1 v.install.op)) (sym notes_are) (1, refl))
 
   place_own : Has w.notes (install_word own.seat own.number 2 (place_number place.node place.field))
   unfolding notes_are
   place_own = let s = ready.seat in let k = ready.number in let o = ready.place_word in
-    let e : install_word v.seat v.install.number 2 v.install.place ≡ install_word own.seat own.number 2 (place_number place.node place.field) = cc in
-    subst (Has w.notes) e (subst (λ xs. Has xs (install_word v.seat v.install.number 2 v.install.place)) (sym notes_are) (2, refl))
+      let e : install_word v.seat v.install.number 2 v.install.place ≡ install_word own.seat own.number 2 (place_number place.node place.field) = cc in
+      subst (Has w.notes) e (subst (λ xs. Has xs (install_word v.seat v.install.number 2 v.install.place)) (sym notes_are) (2, refl))
 
   old_own : Has w.notes (install_word own.seat own.number 3 place.old)
   unfolding notes_are
   old_own = let s = ready.seat in let k = ready.number in let o = ready.old_word in
-    let e : install_word v.seat v.install.number 3 v.install.old ≡ install_word own.seat own.number 3 place.old = cc in
-    subst (Has w.notes) e (subst (λ xs. Has xs (install_word v.seat v.install.number 3 v.install.old)) (sym notes_are) (3, refl))
+      let e : install_word v.seat v.install.number 3 v.install.old ≡ install_word own.seat own.number 3 place.old = cc in
+      subst (Has w.notes) e (subst (λ xs. Has xs (install_word v.seat v.install.number 3 v.install.old)) (sym notes_are) (3, refl))
 
   pub placed_by_hit : v.seat < z.seats → AllNotes (NoteInRange z) v.notes → IsPlaced z w own op place
   unfolding met_own op_own place_own old_own
@@ -69,3 +75,43 @@ module _ (z : Size) (v w : View) (own op : Ref) (place : Place) (ready : IsReady
       old = old_own;
     };
   }
+
+-- what a word that isn't the old value tells, by what is answered
+found_reference : (n : ℕ) (f : Field) (k : RefKind) (s m : ℕ) → found n f (word_of k s m) ≡ met_note k s m n f ∷ []
+found_reference n f AnInstall s m = refl
+found_reference n f AnExchange s m = refl
+
+is_other : (k : RefKind) (s m : ℕ) (c : WordKind) (seat : ℕ) (op : Ref) → c ≡ word_of k s m
+    → ((q j : ℕ) → c ≡ Install q j → q ≢ seat) → (k ≡ AnExchange → s ≡ op.seat → m ≢ op.number) → IsOther k s m seat op
+is_other AnInstall s m c seat op is own other = own s m is
+is_other AnExchange s m c seat op is own other = other refl
+
+module _ (v w : View) (op : Ref) (place : Place) (c : WordKind)
+    (miss : w ≡ with_notes v (found place.node place.field c)) where
+  noted : (x : WordKind) → c ≡ x → w.notes ≡ found place.node place.field x ++ v.notes
+  noted x e = subst (λ y. w.notes ≡ found place.node place.field y ++ v.notes) e (ap (λ (u : View). u.notes) miss)
+
+  pub met_now : (i : Installed) → IfMet i (λ r. c ≡ word_of r.kind r.seat r.number)
+      → IfMet i (λ r. r.kind ≡ AnExchange → r.seat ≡ op.seat → r.number ≢ op.number) → ((q j : ℕ) → c ≡ Install q j → q ≢ v.seat)
+      → IfMet i (λ r. IsMet v w op place r)
+  unfolding noted
+  met_now Held is other own = tt
+  met_now Decided is other own = tt
+  met_now (Differs x) is other own = tt
+  met_now (Met r) is other own = (
+    noted (word_of r.kind r.seat r.number) is ∙ ap (λ xs. xs ++ v.notes) (found_reference place.node place.field r.kind r.seat r.number),
+    is_other r.kind r.seat r.number c w.seat op is (λ q j e. subst (λ s. q ≢ s) (sym (ap (λ (u : View). u.seat) miss)) (own q j e)) other,
+  )
+  met_now (OutOfNumbers n) is other own = tt
+
+  pub differs_now : (i : Installed) → c ≢ Plain place.old → IfDiffers i (λ x. c ≡ Plain x) → IfDiffers i (IsDifferent v w place)
+  unfolding noted
+  differs_now Held ne is = tt
+  differs_now Decided ne is = tt
+  differs_now (Differs x) ne is = ((λ e. ne (is ∙ ap Plain e)), noted (Plain x) is)
+  differs_now (Met r) ne is = tt
+  differs_now (OutOfNumbers n) ne is = tt
+
+-- a word other than that of a plain value isn't that plain value
+pub not_old : (r old x : ℕ) → IsWord r → old ≡ raw (Plain x) → r ≢ old → kind r ≢ Plain x
+not_old r old x is e ne k = ne (sym (raw_kind r is) ∙ (ap raw k ∙ sym e))

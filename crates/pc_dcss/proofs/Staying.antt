@@ -1,7 +1,6 @@
 -- What stays of a pass and of its view from step to step.
-use Rattle.std.proofs.Common.{◌≡◌, ◌∙◌, ◌<◌, true, sym, subst, ap}
+use Rattle.std.proofs.Common.{◌∙◌, ◌<◌, sym, subst, ap}
 use Rattle.pc_model.specs.declared.shape.Shape.{Ghosts}
-use Rattle.pc_rule_law.specs.Board.{Size}
 use Rattle.pc_rule_law.specs.Views.{View, NoteInRange, AllNotes}
 use Rattle.pc_rule_law.specs.Plays.{IsLater}
 use Rattle.pc_rule.specs.declared.board.Board.{Board}

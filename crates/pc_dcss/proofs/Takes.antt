@@ -1,14 +1,13 @@
 -- What an install's taking tells.
-use Rattle.std.proofs.Common.{◌≡◌, ◌≢◌, ℕ, ◌+◌, ◌-◌, ◌<◌, ◌≤◌, List, [], sym, subst, arith}
+use Rattle.std.proofs.Common.{◌≡◌, ◌≢◌, ℕ, ◌+◌, ◌<◌, ◌≤◌, [], sym, subst, arith}
 use Rattle.pc_model.specs.declared.cell.Field.{Field}
-use Rattle.pc_words.specs.declared.word.WordKind.{WordKind}
-use Rattle.pc_words.specs.declared.word.WordKind.TheVariants.{Plain, Install, Exchange}
+use Rattle.pc_words.specs.declared.word.WordKind.TheVariants.{Install, Exchange}
 use Rattle.pc_words.specs.declared.status.Status.{Status}
 use Rattle.pc_words.specs.Words.{raw, kind, InRange}
 use Rattle.pc_words.proofs.Words.{kind_raw}
 use Rattle.pc_rule_law.specs.Past.{Has}
 use Rattle.pc_rule_law.specs.Stages.{decided_by}
-use Rattle.pc_rule_law.specs.Views.{Note, View, install_word, held, decided_below}
+use Rattle.pc_rule_law.specs.Views.{View, install_word, held}
 use Rattle.pc_rule_law.specs.Plays.{InstallTaken, StatusLoaded, found}
 use Rattle.pc_rule_law.proofs.Lists.{has_first}
 use Rattle.pc_dcss.specs.Installs.{IsDecided}

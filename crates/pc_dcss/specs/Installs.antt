@@ -1,14 +1,15 @@
 -- What clauses say of installs, by what a pass has noted.
-use Rattle.std.specs.Prelude.{◌≡◌, ◌≢◌, ℕ, ◌+◌, ◌-◌, ◌^◌, ◌<◌, ◌≤◌, true}
+use Rattle.std.specs.Prelude.{◌≡◌, ◌≢◌, ℕ, ◌-◌, ◌^◌, ◌<◌, ◌≤◌, true, ◌∷◌, ◌++◌}
 use Rattle.pc_model.specs.declared.cell.Field.{Field}
 use Rattle.pc_model.specs.declared.numbers.Numbers.{Numbers}
 use Rattle.pc_model.specs.Cells.{IsNode}
 use Rattle.pc_words.specs.declared.word.WordKind.{WordKind}
-use Rattle.pc_words.specs.declared.word.WordKind.TheVariants.{Install, Exchange}
+use Rattle.pc_words.specs.declared.word.WordKind.TheVariants.{Plain, Install, Exchange}
 use Rattle.pc_words.specs.Words.{raw}
 use Rattle.pc_rule_law.specs.Board.{Size, place_number}
 use Rattle.pc_rule_law.specs.Past.{Has, change}
-use Rattle.pc_rule_law.specs.Views.{Note, OwnInstall, View, entry, placed, install_word, decided_below, held, IsInstall, IsAttempt}
+use Rattle.pc_rule_law.specs.Plays.{found}
+use Rattle.pc_rule_law.specs.Views.{Note, View, entry, placed, install_word, decided_below, held, IsInstall, IsAttempt}
 use Rattle.pc_model.specs.declared.cell.Counter.TheVariants.{Install as Installs}
 use Rattle.pc_rule.specs.declared.opening.Place.{Place}
 use Rattle.pc_rule.specs.declared.refs.RefKind.{RefKind}
@@ -62,10 +63,22 @@ abbrev pub IsOther : RefKind → ℕ → ℕ → ℕ → Ref → Type 0
 IsOther AnInstall seat number own op = seat ≢ own
 IsOther AnExchange seat number own op = seat ≡ op.seat → number ≢ op.number
 
--- the pass met this reference in the word, and it is another's
-abbrev pub IsMet : View → Ref → Place → Ref → Type 0
-IsMet v op place r = Has v.notes (met_note r.kind r.seat r.number place.node place.field)
-    × IsOther r.kind r.seat r.number v.seat op
+-- the pass has met this reference in the word since it knew what it knew first, and it is another's
+abbrev pub IsMet : View → View → Ref → Place → Ref → Type 0
+IsMet v w op place r = (w.notes ≡ met_note r.kind r.seat r.number place.node place.field ∷ v.notes)
+    × IsOther r.kind r.seat r.number w.seat op
+
+-- the word had this plain value, which isn't the old one; and what is noted of a plain value was noted
+abbrev pub IsDifferent : View → View → Place → ℕ → Type 0
+IsDifferent v w place x = (x ≢ place.old) × (w.notes ≡ found place.node place.field (Plain x) ++ v.notes)
+
+-- the answer is that there is no number
+abbrev pub IsOutOfNumbers : Installed → Type 0
+IsOutOfNumbers Held = ⊥
+IsOutOfNumbers Decided = ⊥
+IsOutOfNumbers (Differs x) = ⊥
+IsOutOfNumbers (Met r) = ⊥
+IsOutOfNumbers (OutOfNumbers n) = Unit {0}
 
 -- the install number stands at its last value, and the pass knows what it knew
 abbrev pub HasNoNumber : View → View → Numbers → Type 0

@@ -7,8 +7,8 @@ ghost use Rattle.pc_rule_law.specs.Plays.{IsLater};
 ghost use Rattle.pc_rule.specs.Passes.{view, IsPassOf, IsSamePass};
 ghost use Rattle.pc_dcss.specs.Installs.{HasMet, KnowsNumbers};
 
-use crate::taking::take;
 use crate::descriptor::words_of;
+use crate::taking::take;
 use pc_model::Shape;
 use pc_rule::{Board, Pass, Ref, step_4};
 

@@ -1,5 +1,5 @@
 //! An install: the own descriptor, its reference in place of the old value, and the taking.
-ghost use Rattle.std.specs.Prelude.{◌≡◌, ◌≢◌, ◌+◌, ◌<◌, ◌≤◌, ◌^◌, IfOk, IfErr, OnErr};
+ghost use Rattle.std.specs.Prelude.{◌≡◌, ◌≢◌, ◌+◌, ◌<◌, ◌≤◌, ◌^◌, IfOk, IfErr, OnErr, IsErrAnd};
 ghost use Rattle.pc_words.specs.declared.word.WordKind.TheVariants.{Plain, Exchange as ExchangeWord};
 ghost use Rattle.pc_words.specs.Words.{raw, kind, IsWord};
 ghost use Rattle.pc_rule_law.specs.Board.{place_number};
@@ -8,7 +8,7 @@ ghost use Rattle.pc_rule_law.specs.Views.{held};
 ghost use Rattle.pc_rule_law.specs.Conditions.{IsFree};
 ghost use Rattle.pc_rule.specs.declared.refs.RefKind.TheVariants.{Exchange};
 ghost use Rattle.pc_rule.specs.Passes.{view, board_size, IsPassOf, IsSamePass};
-ghost use Rattle.pc_dcss.specs.Installs.{IsDecided, KnowsPlace, KeepsNotes, IsReady, IsPlaced, IsMet, HasNoNumber, described, word_of, last_install, OnHeld, OnDecided, IfDiffers, IfMet, IfNumbers};
+ghost use Rattle.pc_dcss.specs.Installs.{IsDecided, KnowsPlace, KeepsNotes, IsReady, IsPlaced, IsMet, IsDifferent, HasNoNumber, IsOutOfNumbers, described, word_of, last_install, OnHeld, OnDecided, IfDiffers, IfMet, IfNumbers};
 
 use crate::descriptor::{Words, number_of};
 use crate::installed::Installed;
@@ -98,8 +98,8 @@ fn put_install<H: Shape>(
     ensures free { OnErr result (IsFree (view pass.new)) }
     ensures held { IfErr result (λ i. OnHeld i (Has (view pass.new).notes (held op.seat op.number place.node place.field))) }
     ensures decided { IfErr result (λ i. OnDecided i ⊥) }
-    ensures differs { IfErr result (λ i. IfDiffers i (λ x. x ≢ place.old)) }
-    ensures met { IfErr result (λ i. IfMet i (λ r. IsMet (view pass.new) op place r)) }
+    ensures differs { IfErr result (λ i. IfDiffers i (IsDifferent (view pass.old) (view pass.new) place)) }
+    ensures met { IfErr result (λ i. IfMet i (λ r. IsMet (view pass.old) (view pass.new) op place r)) }
     ensures numbers { IfErr result (λ i. IfNumbers i (λ n. ⊥)) }
 {
     let old = plain(place.old);
@@ -132,9 +132,10 @@ pub fn place_install<H: Shape>(
     ensures free { OnErr result (IsFree (view pass.new)) }
     ensures held { IfErr result (λ i. OnHeld i (Has (view pass.new).notes (held op.seat op.number place.node place.field))) }
     ensures decided { IfErr result (λ i. OnDecided i (IsDecided (view pass.new) op.seat op.number)) }
-    ensures differs { IfErr result (λ i. IfDiffers i (λ x. x ≢ place.old)) }
-    ensures met { IfErr result (λ i. IfMet i (λ r. IsMet (view pass.new) op place r)) }
+    ensures differs { IfErr result (λ i. IfDiffers i (IsDifferent (view pass.old) (view pass.new) place)) }
+    ensures met { IfErr result (λ i. IfMet i (λ r. IsMet (view pass.old) (view pass.new) op place r)) }
     ensures numbers { IfErr result (λ i. IfNumbers i (HasNoNumber (view pass.old) (view pass.new))) }
+    ensures last { last_install ≤ (view pass.old).install.number → IsErrAnd result IsOutOfNumbers }
 {
     let last = pass.installs();
     if last >= LAST_INSTALL {
@@ -155,12 +156,7 @@ pub fn place_install<H: Shape>(
 /// Puts the reference of an exchange into one of its words: in place of the old value, where the exchange is undecided
 /// after the own install took the word. No install of this pass is left, and no plain value changes.
 /// Source: Harris, Fraser and Pratt (2002), with numbered descriptors as those of Arbel-Raviv and Brown (2017).
-pub fn install<H: Shape>(
-    board: &Board<H>,
-    pass: &mut Pass<H>,
-    op: Ref,
-    place: Place,
-) -> Installed
+pub fn install<H: Shape>(board: &Board<H>, pass: &mut Pass<H>, op: Ref, place: Place) -> Installed
     requires pass { IsPassOf board.now pass.old }
     requires free { IsFree (view pass.old) }
     requires exchange { op.kind ≡ Exchange }
@@ -171,9 +167,10 @@ pub fn install<H: Shape>(
     ensures free { IsFree (view pass.new) }
     ensures held { OnHeld result (Has (view pass.new).notes (held op.seat op.number place.node place.field)) }
     ensures decided { OnDecided result (IsDecided (view pass.new) op.seat op.number) }
-    ensures differs { IfDiffers result (λ x. x ≢ place.old) }
-    ensures met { IfMet result (λ r. IsMet (view pass.new) op place r) }
+    ensures differs { IfDiffers result (IsDifferent (view pass.old) (view pass.new) place) }
+    ensures met { IfMet result (λ r. IsMet (view pass.old) (view pass.new) op place r) }
     ensures numbers { IfNumbers result (HasNoNumber (view pass.old) (view pass.new)) }
+    ensures last { last_install ≤ (view pass.old).install.number → IsOutOfNumbers result }
 {
     match place_install(board, pass, op, place) {
         Ok(own) => {

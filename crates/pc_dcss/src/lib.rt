@@ -10,7 +10,6 @@ mod installed;
 mod installing;
 mod taking;
 
-
 pub use completing::complete;
 pub use installed::Installed;
 pub use installing::{install, place_install};

@@ -9,8 +9,8 @@ ghost use Rattle.pc_rule_law.specs.Plays.{IsLater};
 ghost use Rattle.pc_rule.specs.Passes.{view, board_size, IsPassOf, IsSamePass};
 ghost use Rattle.pc_dcss.specs.Installs.{IsDecided, KnowsWords, OnHeld, OnDecided, IsEnd};
 
-use crate::installed::Installed;
 use crate::descriptor::Words;
+use crate::installed::Installed;
 use pc_model::Shape;
 use pc_rule::{Board, Pass, Ref, step_7, step_8};
 use pc_words::{Stage, Status, exchange_ref, install_ref, plain, unpack};

@@ -1,6 +1,4 @@
 -- What was loaded of an install that was met is in range, so its words are known.
-use Rattle.std.proofs.Common.{◌≡◌, ◌<◌, ℕ, subst}
-use Rattle.pc_model.specs.declared.cell.Field.{Field}
 use Rattle.pc_rule_law.specs.Board.{Size}
 use Rattle.pc_rule_law.specs.Views.{View, NoteInRange, AllNotes}
 use Rattle.pc_rule.specs.Passes.{view, board_size}
@@ -31,6 +29,6 @@ take-requires-clause-known g c κs within = let b = c.args.board.now in let p = 
     let z : Size = board_size b in let v : View = view p in let w = c.words_of-words.result in
     let ranged : AllNotes (NoteInRange z) v.notes = notes_ranged b p (pass_stays b c.args.pass.now p c.requires.pass c.load_words.ensures.pass) in
     let known : KnowsWords z v c.args.r.seat c.args.r.number w.op.seat w.op.number w.node w.field c.in-Some.words.old =
-      knows_words z v (few_seats b) ranged c.args.r.seat c.args.r.number w.op.seat w.op.number w.node w.field c.in-Some.words.op c.in-Some.words.place c.in-Some.words.old
-        c.in-Some.ensures.known c.words_of-words.ensures.op c.words_of-words.ensures.place in
+    knows_words z v (few_seats b) ranged c.args.r.seat c.args.r.number w.op.seat w.op.number w.node w.field c.in-Some.words.op c.in-Some.words.place c.in-Some.words.old
+    c.in-Some.ensures.known c.words_of-words.ensures.op c.words_of-words.ensures.place in
     rw c.words_of-words.ensures.old known

@@ -1,5 +1,5 @@
 -- The loads of a descriptor: their lemma, at the views that they leave.
-use Rattle.std.proofs.Common.{◌≡◌, ◌+◌, ◌-◌, ◌<◌, ◌≤◌, ℕ, subst, refl, arith}
+use Rattle.std.proofs.Common.{◌≡◌, ◌+◌, ◌-◌, subst, arith}
 use Rattle.pc_rule_law.specs.Plays.{InstallLoaded}
 use Rattle.pc_rule.specs.Passes.{view, board_size}
 use Rattle.pc_rule.proofs.Boards.{few_seats}
@@ -31,19 +31,19 @@ step_4-number-requires-clause-of g c κs within = let s = met_seat (board_size c
 pub returns-then-number-r-clause-removed : goal.returns-then-number-r-clause-removed
 returns-then-number-r-clause-removed g c = let q = c.args.r.seat in let e : (q + 1) - 1 ≡ q = of_seat q in
     loads_gone q c.args.r.number c.step_4-op.result c.step_4-place.result c.step_4-old.result c.step_4-number.result
-      (view c.args.pass.now) (view c.step_4-op.new.pass) (view c.step_4-place.new.pass) (view c.step_4-old.new.pass) (view c.step_4-number.new.pass) c.requires.met
-      (subst (λ x. InstallLoaded (view c.args.pass.now) x 1 c.step_4-op.result (view c.step_4-op.new.pass)) e c.step_4-op.ensures.told)
-      (subst (λ x. InstallLoaded (view c.step_4-op.new.pass) x 2 c.step_4-place.result (view c.step_4-place.new.pass)) e c.step_4-place.ensures.told)
-      (subst (λ x. InstallLoaded (view c.step_4-place.new.pass) x 3 c.step_4-old.result (view c.step_4-old.new.pass)) e c.step_4-old.ensures.told)
-      (subst (λ x. InstallLoaded (view c.step_4-old.new.pass) x 0 c.step_4-number.result (view c.step_4-number.new.pass)) e c.step_4-number.ensures.told)
-      c.if-number-r.true
+    (view c.args.pass.now) (view c.step_4-op.new.pass) (view c.step_4-place.new.pass) (view c.step_4-old.new.pass) (view c.step_4-number.new.pass) c.requires.met
+    (subst (λ x. InstallLoaded (view c.args.pass.now) x 1 c.step_4-op.result (view c.step_4-op.new.pass)) e c.step_4-op.ensures.told)
+    (subst (λ x. InstallLoaded (view c.step_4-op.new.pass) x 2 c.step_4-place.result (view c.step_4-place.new.pass)) e c.step_4-place.ensures.told)
+    (subst (λ x. InstallLoaded (view c.step_4-place.new.pass) x 3 c.step_4-old.result (view c.step_4-old.new.pass)) e c.step_4-old.ensures.told)
+    (subst (λ x. InstallLoaded (view c.step_4-old.new.pass) x 0 c.step_4-number.result (view c.step_4-number.new.pass)) e c.step_4-number.ensures.told)
+    c.if-number-r.true
 
 pub returns-clause-known : goal.returns-clause-known
 returns-clause-known g c = let q = c.args.r.seat in let e : (q + 1) - 1 ≡ q = of_seat q in
     loads_known q c.args.r.number c.step_4-op.result c.step_4-place.result c.step_4-old.result c.step_4-number.result
-      (view c.args.pass.now) (view c.step_4-op.new.pass) (view c.step_4-place.new.pass) (view c.step_4-old.new.pass) (view c.step_4-number.new.pass) c.requires.met
-      (subst (λ x. InstallLoaded (view c.args.pass.now) x 1 c.step_4-op.result (view c.step_4-op.new.pass)) e c.step_4-op.ensures.told)
-      (subst (λ x. InstallLoaded (view c.step_4-op.new.pass) x 2 c.step_4-place.result (view c.step_4-place.new.pass)) e c.step_4-place.ensures.told)
-      (subst (λ x. InstallLoaded (view c.step_4-place.new.pass) x 3 c.step_4-old.result (view c.step_4-old.new.pass)) e c.step_4-old.ensures.told)
-      (subst (λ x. InstallLoaded (view c.step_4-old.new.pass) x 0 c.step_4-number.result (view c.step_4-number.new.pass)) e c.step_4-number.ensures.told)
-      c.if-number-r.false
+    (view c.args.pass.now) (view c.step_4-op.new.pass) (view c.step_4-place.new.pass) (view c.step_4-old.new.pass) (view c.step_4-number.new.pass) c.requires.met
+    (subst (λ x. InstallLoaded (view c.args.pass.now) x 1 c.step_4-op.result (view c.step_4-op.new.pass)) e c.step_4-op.ensures.told)
+    (subst (λ x. InstallLoaded (view c.step_4-op.new.pass) x 2 c.step_4-place.result (view c.step_4-place.new.pass)) e c.step_4-place.ensures.told)
+    (subst (λ x. InstallLoaded (view c.step_4-place.new.pass) x 3 c.step_4-old.result (view c.step_4-old.new.pass)) e c.step_4-old.ensures.told)
+    (subst (λ x. InstallLoaded (view c.step_4-old.new.pass) x 0 c.step_4-number.result (view c.step_4-number.new.pass)) e c.step_4-number.ensures.told)
+    c.if-number-r.false

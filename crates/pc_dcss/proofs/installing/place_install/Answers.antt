@@ -1,7 +1,9 @@
 -- What is known of the exchange bounds its numbers, and a descriptor's words are no notes.
-use Rattle.std.proofs.Common.{◌≡◌, ◌<◌, ◌^◌, ℕ, sym, subst, arith}
+use Rattle.std.proofs.Common.{sym, subst, arith}
 use Rattle.pc_rule_law.specs.Past.{Has}
 use Rattle.pc_rule_law.specs.Views.{View}
+use Rattle.std.specs.Prelude.{IfErr}
+use Rattle.pc_dcss.specs.Installs.{IsMet, IsDifferent, IfMet, IfDiffers}
 use Rattle.pc_rule.specs.Passes.{view, board_size}
 use Rattle.pc_rule.proofs.Boards.{few_seats}
 use Rattle.pc_dcss.proofs.Staying.{notes_ranged}
@@ -15,3 +17,11 @@ describe-requires-clause-op g c κs within = let b = c.args.board.now in let p =
 
 pub returns-clause-keeps : goal.returns-clause-keeps
 returns-clause-keeps g c x h = c.put_install.ensures.keeps x (subst (λ (u : View). Has u.notes x) (sym c.describe.ensures.told) h)
+
+pub returns-clause-met : goal.returns-clause-met
+returns-clause-met g c = subst (λ (u : View). IfErr c.put_install.result (λ i. IfMet i (λ r. IsMet u (view c.put_install.new.pass) c.args.op c.args.place r)))
+    c.describe.ensures.told c.put_install.ensures.met
+
+pub returns-clause-differs : goal.returns-clause-differs
+returns-clause-differs g c = subst (λ (u : View). IfErr c.put_install.result (λ i. IfDiffers i (IsDifferent u (view c.put_install.new.pass) c.args.place)))
+    c.describe.ensures.told c.put_install.ensures.differs

@@ -1,12 +1,11 @@
 -- The placing, by what stood in the word.
-use Rattle.std.proofs.Common.{◌≡◌, ◌<◌, ◌^◌, ℕ, sym, ◌∙◌, ap, subst, arith}
-use Rattle.pc_rule_law.specs.Board.{Size}
-use Rattle.pc_rule_law.specs.Views.{View, NoteInRange, AllNotes}
+use Rattle.std.proofs.Common.{◌<◌, ◌^◌, ap, subst}
+use Rattle.pc_rule_law.specs.Views.{View}
 use Rattle.pc_words.specs.Words.{kind}
 use Rattle.pc_rule_law.specs.Plays.{own_notes, found}
 use Rattle.pc_rule.specs.Passes.{view, board_size}
 use Rattle.pc_dcss.proofs.Staying.{notes_ranged}
-use Rattle.pc_dcss.proofs.Puts.{install_again, keeps_with_more, place_ranged, placed_by_hit}
+use Rattle.pc_dcss.proofs.Puts.{install_again, keeps_with_more, place_ranged, placed_by_hit, met_now, differs_now, not_old}
 use Rattle.pc_dcss.proofs.installing.put_install.Goals as goal
 
 pub plain-old-requires : goal.plain-old-requires
@@ -19,8 +18,11 @@ step_6-found-requires-clause-inside g c κs within = let b = c.args.board.now in
 
 pub step_6-found-requires-clause-may : goal.step_6-found-requires-clause-may
 step_6-found-requires-clause-may g c κs within = let b = c.args.board.now in let p = c.args.pass.now in let v : View = view p in let ready = c.requires.ready in
-    let r = place_ranged (board_size b) v (notes_ranged b p c.requires.pass) c.args.op c.args.place ready.listed in
-    (c.args.place.old, c.args.op.seat, c.args.op.number, c.plain-old.ensures.raw,
+    let r = place_ranged (board_size b) v (notes_ranged b p c.requires.pass) c.args.op c.args.place ready.listed in (
+      c.args.place.old,
+      c.args.op.seat,
+      c.args.op.number,
+      c.plain-old.ensures.raw,
       install_again c.args.own.seat c.args.own.number v.seat v.install.number c.install_ref-install.result ready.seat ready.number c.install_ref-install.ensures.raw,
       record {
         live = p.live;
@@ -32,7 +34,8 @@ step_6-found-requires-clause-may g c κs within = let b = c.args.board.now in le
         small = (subst (λ x. x < 2 ^ 54) ready.number ready.small, r.2);
         attempt = r.0;
         listed = (c.args.place.new, ready.listed);
-      })
+      },
+    )
 
 pub returns-then-found-old-clause-keeps : goal.returns-then-found-old-clause-keeps
 returns-then-found-old-clause-keeps g c = let v : View = view c.args.pass.now in
@@ -41,8 +44,17 @@ returns-then-found-old-clause-keeps g c = let v : View = view c.args.pass.now in
 pub returns-then-found-old-clause-placed : goal.returns-then-found-old-clause-placed
 returns-then-found-old-clause-placed g c = let b = c.args.board.now in let p = c.args.pass.now in
     placed_by_hit (board_size b) (view p) (view c.step_6-found.new.pass) c.args.own c.args.op c.args.place c.requires.ready (c.step_6-found.ensures.told.hit c.if-found-old.true)
-      c.requires.pass.2 (notes_ranged b p c.requires.pass)
+    c.requires.pass.2 (notes_ranged b p c.requires.pass)
 
 pub returns-clause-keeps : goal.returns-clause-keeps
 returns-clause-keeps g c = let v : View = view c.args.pass.now in
     keeps_with_more v (view c.step_6-found.new.pass) (found c.args.place.node c.args.place.field (kind c.step_6-found.result)) (ap (λ (u : View). u.notes) (c.step_6-found.ensures.told.miss c.if-found-old.false))
+
+pub returns-clause-met : goal.returns-clause-met
+returns-clause-met g c = met_now (view c.args.pass.now) (view c.step_6-found.new.pass) c.args.op c.args.place (kind c.step_6-found.result)
+    (c.step_6-found.ensures.told.miss c.if-found-old.false) c.refusal.result c.refusal.ensures.met c.refusal.ensures.other c.step_6-found.ensures.told.other
+
+pub returns-clause-differs : goal.returns-clause-differs
+returns-clause-differs g c = differs_now (view c.args.pass.now) (view c.step_6-found.new.pass) c.args.op c.args.place (kind c.step_6-found.result)
+    (c.step_6-found.ensures.told.miss c.if-found-old.false) c.refusal.result
+    (not_old c.step_6-found.result c.plain-old.result c.args.place.old c.step_6-found.ensures.told.word c.plain-old.ensures.raw c.if-found-old.false) c.refusal.ensures.differs

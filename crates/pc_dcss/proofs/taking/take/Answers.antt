@@ -1,6 +1,5 @@
 -- The status says that the exchange is decided.
-use Rattle.std.proofs.Common.{◌≡◌, ◌+◌, ◌-◌, ◌<◌, ℕ, sym, subst}
-use Rattle.pc_words.specs.declared.status.Status.{Status}
+use Rattle.std.proofs.Common.{subst}
 use Rattle.pc_words.specs.Statuses.{unpacked}
 use Rattle.pc_rule_law.specs.Views.{decided_below}
 use Rattle.pc_rule_law.specs.Plays.{StatusLoaded}
