@@ -1,4 +1,4 @@
-pub mod Boards
+pub mod BoardSizes
 pub mod Ends
 pub mod Filling
 pub mod Giving

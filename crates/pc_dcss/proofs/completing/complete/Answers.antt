@@ -2,7 +2,7 @@
 use Rattle.pc_rule_law.specs.Board.{Size}
 use Rattle.pc_rule_law.specs.Views.{View, NoteInRange, AllNotes}
 use Rattle.pc_rule.specs.Passes.{view, board_size}
-use Rattle.pc_rule.proofs.Boards.{few_seats, few_slots}
+use Rattle.pc_rule.proofs.BoardSizes.{few_seats, few_slots}
 use Rattle.pc_dcss.specs.Installs.{KnowsWords}
 use Rattle.pc_dcss.proofs.Staying.{pass_stays, notes_ranged}
 use Rattle.pc_dcss.proofs.Known.{Refers, refers, place_small, knows_words}

@@ -2,7 +2,7 @@
 use Rattle.std.proofs.Common.{◌≡◌, ◌+◌, ◌-◌, subst, arith}
 use Rattle.pc_rule_law.specs.Plays.{InstallLoaded}
 use Rattle.pc_rule.specs.Passes.{view, board_size}
-use Rattle.pc_rule.proofs.Boards.{few_seats}
+use Rattle.pc_rule.proofs.BoardSizes.{few_seats}
 use Rattle.pc_dcss.proofs.Staying.{notes_ranged}
 use Rattle.pc_dcss.proofs.Known.{met_seat}
 use Rattle.pc_dcss.proofs.Loads.{of_seat, loads_known, loads_gone}

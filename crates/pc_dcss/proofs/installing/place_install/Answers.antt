@@ -5,7 +5,7 @@ use Rattle.pc_rule_law.specs.Views.{View}
 use Rattle.std.specs.Prelude.{IfErr}
 use Rattle.pc_dcss.specs.Installs.{IsMet, IsDifferent, IfMet, IfDiffers}
 use Rattle.pc_rule.specs.Passes.{view, board_size}
-use Rattle.pc_rule.proofs.Boards.{few_seats}
+use Rattle.pc_rule.proofs.BoardSizes.{few_seats}
 use Rattle.pc_dcss.proofs.Staying.{notes_ranged}
 use Rattle.pc_dcss.proofs.Puts.{place_ranged}
 use Rattle.pc_dcss.proofs.installing.place_install.Goals as goal

@@ -2,7 +2,7 @@
 use Rattle.std.proofs.Common.{sym, ◌∙◌, subst, arith}
 use Rattle.pc_rule_law.specs.Plays.{InstallTaken}
 use Rattle.pc_rule.specs.Passes.{view}
-use Rattle.pc_rule.proofs.Boards.{few_seats}
+use Rattle.pc_rule.proofs.BoardSizes.{few_seats}
 use Rattle.pc_dcss.proofs.Takes.{held_by_hit, held_by_miss, decided_by_miss}
 use Rattle.pc_dcss.proofs.taking.put_reference.Goals as goal
 
