@@ -1,6 +1,8 @@
-//! Trials of what a board is made of, each compared with what was worked out by hand: so far of its words. It
+//! Trials of boards and of what they are made of, each compared with what was worked out by hand. It
 //! stands above the crates that it tries, so that these are proved without tests.
 #![tactic(auto)]
 
+#[cfg(test)]
+mod boards;
 #[cfg(test)]
 mod words;

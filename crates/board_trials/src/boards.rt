@@ -1,0 +1,14 @@
+//! Boards that open and close.
+use pc_model::{Loose, Memory};
+use pc_rule::{Share, close_board, open_board, usual_starts};
+
+#[test]
+fn a_board_of_four_passes_opens_and_closes(rt: HostRuntime) -> Result<(), Memory> {
+    let share = Share { slots: 1, calls: 0 };
+    let shares = [share, share, share, share];
+    let (board, passes) = open_board(rt.alloc(), Loose, &shares, usual_starts())?;
+    let count = passes.len();
+    let closed = close_board(board, passes);
+    assert_eq!(rt; (count, closed.history().len()), (4, 0));
+    Ok(())
+}
