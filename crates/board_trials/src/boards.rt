@@ -34,3 +34,38 @@ fn a_board_opens_and_closes_at_its_limits(rt: HostRuntime) -> Result<(), Memory>
     assert_eq!(rt; (count, closed.history().len()), (32, 0));
     Ok(())
 }
+
+#[test]
+fn a_pass_tells_its_share(rt: HostRuntime) -> Result<(), Memory> {
+    let shares = [Share { slots: 3, calls: 5 }, Share { slots: 2, calls: 0 }];
+    let (board, passes) = open_board(rt.alloc(), Loose, &shares, usual_starts())?;
+    let mut told = [(0, 0, 0, 0); 2];
+    for (i, pass) in passes.iter().enumerate() {
+        told[i] = (
+            pass.number(),
+            pass.free(),
+            pass.room(),
+            pass.entries().len(),
+        );
+    }
+    close_board(board, passes);
+    assert_eq!(rt; told, [(1, 3, 5, 0), (2, 2, 0, 0)]);
+    Ok(())
+}
+
+#[test]
+fn a_pass_is_open_and_has_done_nothing(rt: HostRuntime) -> Result<(), Memory> {
+    let shares = [Share { slots: 1, calls: 1 }];
+    let (board, passes) = open_board(rt.alloc(), Loose, &shares, usual_starts())?;
+    let mut told = ([true; 3], [1; 2], Some(0));
+    for pass in passes.iter() {
+        told = (
+            [pass.at_rest(), pass.published(), pass.has_spare()],
+            [pass.limbo(), pass.debts()],
+            pass.owes_from(),
+        );
+    }
+    close_board(board, passes);
+    assert_eq!(rt; told, ([false; 3], [0; 2], None));
+    Ok(())
+}

@@ -5,6 +5,7 @@ pub mod Giving
 pub mod Numbers
 pub mod Opened
 pub mod Remaining
+pub mod Rooms
 pub mod Sharing
 pub mod Starting
 pub mod Telling

@@ -1,5 +1,5 @@
 -- The passes of a board that opens are all of it, and each has what was given in its notes.
-use Rattle.std.proofs.Common.{◌≡◌, ◌≢◌, ℕ, ◌+◌, ◌<◌, true, List, length, map, refl, sym, ap, ◌∙◌, inl, arith}
+use Rattle.std.proofs.Common.{◌≡◌, ◌≢◌, ℕ, ◌+◌, ◌<◌, true, List, [], length, map, refl, sym, ap, ◌∙◌, subst, inl, arith}
 use mathlib.Core.Option.{some}
 use mathlib.Core.Logic.{dite}
 use native.Mathlib.Decide.{ℕ_discrete}
@@ -14,29 +14,41 @@ use Rattle.pc_rule_law.specs.Views.{Note, View}
 use Rattle.pc_rule_law.proofs.Lists.{below_length}
 use Rattle.pc_rule.specs.declared.board.Board.{Board}
 use Rattle.pc_rule.specs.declared.board.Pass.{Pass}
-use Rattle.pc_rule.specs.Passes.{view, board_size, IsPassOf}
+use Rattle.pc_rule.specs.declared.share.Share.{Share}
+use Rattle.pc_rule.specs.Passes.{view, board_size, recorded, IsPassOf}
 use Rattle.pc_rule.specs.Opened.{last_view, AreOpened}
+use Rattle.pc_rule.specs.Recorded.{HaveShares}
 use Rattle.pc_rule.specs.Shares.{AreAll, AllNoted}
 
--- what a view of a pass that has just been made shows
-record IsNew (o : Opening) (i : ℕ) (v : View) : Type 0 where
-  seat : v.seat ≡ i
-  fresh : v.fresh ≡ true
-  notes : v.notes ≡ map note_of o.given.items
+module _ {H : Type 0} {S : Ghosts H} (b : Board H) (o : Opening) where
+  -- what a pass shows that has just been made
+  record IsNew (i : ℕ) (p : Pass H S) : Type 0 where
+    of : IsPassOf b p
+    seat : (view p).seat ≡ i
+    fresh : (view p).fresh ≡ true
+    notes : (view p).notes ≡ map note_of o.given.items
+    none : recorded p ≡ []
 
-module _ {H : Type 0} {S : Ghosts H} (b : Board H) (o : Opening) (passes : List (Pass H S)) (opened : AreOpened b o passes) where
-  each_new : (i : ℕ) (p : Pass H S) → get_elem? passes i ≡ some p → IsNew o i (view p)
-  each_new i p at = let q = opened.1 i p at in let lt : i < length passes = below_length passes i p at in let n : length passes ≡ o.seats = opened.0 in dite (ℕ_discrete (i + 1) o.seats)
-      (λ e. let is : view p ≡ last_view o i = q.2 e in record { seat = ap (λ (v : View). v.seat) is; fresh = ap (λ (v : View). v.fresh) is; notes = ap (λ (v : View). v.notes) is })
-      (λ ne. let is : view p ≡ maker (last_view o i) = q.1 (omega arith) in record { seat = ap (λ (v : View). v.seat) is; fresh = ap (λ (v : View). v.fresh) is; notes = ap (λ (v : View). v.notes) is })
+  module _ (passes : List (Pass H S)) (opened : AreOpened b o passes) where
+    each_new : (i : ℕ) (p : Pass H S) → get_elem? passes i ≡ some p → IsNew i p
+    each_new i p at = let q = opened.1 i p at in let lt : i < length passes = below_length passes i p at in let n : length passes ≡ o.seats = opened.0 in dite (ℕ_discrete (i + 1) o.seats)
+        (λ e. let l = q.1 e in let is : view p ≡ last_view o i = l.1 in record { of = l.0; seat = ap (λ (v : View). v.seat) is; fresh = ap (λ (v : View). v.fresh) is; notes = ap (λ (v : View). v.notes) is; none = l.2 })
+        (λ ne. let m = q.0 (omega arith) in let is : view p ≡ maker (last_view o i) = m.1 in record { of = m.0; seat = ap (λ (v : View). v.seat) is; fresh = ap (λ (v : View). v.fresh) is; notes = ap (λ (v : View). v.notes) is; none = m.2 })
 
-  pub all_opened : 0 < o.seats → board_size b ≡ size_of o → AreAll b passes
-  all_opened one sized = let seats : (board_size b).seats ≡ o.seats = ap (λ (z : Size). z.seats) sized in record {
-    some = rw seats one;
-    count = opened.0 ∙ sym seats;
-    order = λ i p at. let is = each_new i p at in ((opened.1 i p at).0, is.seat, inl is.fresh);
-    last = λ i p at e. let is : view p ≡ last_view o i = (opened.1 i p at).2 (e ∙ seats) in (ap (λ (v : View). v.last) is, ap (λ (v : View). v.rest) is);
-  }
+    pub all_opened : 0 < o.seats → board_size b ≡ size_of o → length b.shares.items ≡ o.seats → AreAll b passes
+    all_opened one sized shares = let seats : (board_size b).seats ≡ o.seats = ap (λ (z : Size). z.seats) sized in record {
+      some = rw seats one;
+      count = opened.0 ∙ sym seats;
+      shared = shares ∙ sym seats;
+      order = λ i p at. let is = each_new i p at in (is.of, is.seat, inl is.fresh);
+      last = λ i p at e. let l = (opened.1 i p at).1 (e ∙ seats) in (ap (λ (v : View). v.last) l.1, ap (λ (v : View). v.rest) l.1, l.3 (e ∙ seats));
+    }
 
-  pub all_noted : (notes : List Note) → map note_of o.given.items ≡ notes → AllNoted passes notes
-  all_noted notes given i p at = (each_new i p at).notes ∙ given
+    pub all_noted : (notes : List Note) → map note_of o.given.items ≡ notes → AllNoted passes notes
+    all_noted notes given i p at = (each_new i p at).notes ∙ given
+
+    pub all_shared : (shares : List Share) → b.shares.items ≡ shares → HaveShares shares passes
+    all_shared shares same i p at = let is = each_new i p at in (
+      subst (λ (n : ℕ). get_elem? shares n ≡ some p.share) is.seat (subst (λ (l : List Share). get_elem? l (view p).seat ≡ some p.share) same is.of.4),
+      is.none,
+    )

@@ -12,7 +12,7 @@ use Rattle.pc_words.specs.Words.{InRange}
 use Rattle.pc_rule_law.specs.Past.{Has, IsFormed}
 use Rattle.pc_rule_law.specs.Openings.{attempt_of, opening_changes}
 use Rattle.pc_rule_law.proofs.Lists.{below_length, element_at}
-use Rattle.pc_rule.specs.declared.boards.Share.{Share}
+use Rattle.pc_rule.specs.declared.share.Share.{Share}
 use Rattle.pc_rule.specs.declared.opening.Place.{Place}
 use Rattle.pc_rule.specs.declared.opening.Posted.{Posted}
 use Rattle.pc_rule.specs.Shares.{slots_of, IsForSentinel, AreForSentinel}

@@ -1,5 +1,8 @@
 -- What clauses say of a board and its passes.
-use Rattle.std.specs.Prelude.{◌≡◌, ℕ, zero, suc, ◌<◌, ◌≤◌}
+use Rattle.std.specs.Prelude.{◌≡◌, ℕ, zero, suc, ◌<◌, ◌≤◌, List, length}
+use mathlib.Core.Option.{some}
+use lib.ListN.{get_elem?}
+use Rattle.pc_model.specs.declared.call.Entry.{Entry}
 use Rattle.pc_model.specs.declared.shape.Shape.{Ghosts}
 use Rattle.pc_model.specs.Cells.{IsNode}
 use Rattle.pc_rule_law.specs.Board.{Size}
@@ -8,6 +11,7 @@ use Rattle.pc_rule_law.specs.Plays.{IsWell}
 use Rattle.pc_rule_law.specs.Tables.{size_of}
 use Rattle.pc_rule.specs.declared.board.Board.{Board}
 use Rattle.pc_rule.specs.declared.board.Pass.{Pass}
+use Rattle.pc_rule.specs.declared.share.Share.{Share}
 
 module _ {H : Type 0} where
   -- the size of a board
@@ -26,14 +30,27 @@ module _ {H : Type 0} {S : Ghosts H} where
   abbrev pub view : Pass H S → View
   view p = p.seat.me.0
 
-  -- the pass is one of the board's
+  -- what a pass has of its board, and the calls that it recorded
+  abbrev pub share_of : Pass H S → Share
+  share_of p = p.share
+
+  abbrev pub recorded : Pass H S → List Entry
+  recorded p = p.entries.items
+
+  -- the pass sits at the board
+  abbrev pub SitsAt : Board H → Pass H S → Type 0
+  SitsAt b p = (p.seat.table_id ≡ b.table.shared.table_id) × ((view p).size ≡ board_size b) × ((view p).seat < (board_size b).seats) × IsWell (view p)
+
+  -- the pass is one of the board's: it sits there, with the share of its seat, and recorded no more calls than that has
   abbrev pub IsPassOf : Board H → Pass H S → Type 0
   IsPassOf b p = (p.seat.table_id ≡ b.table.shared.table_id) × ((view p).size ≡ board_size b) × ((view p).seat < (board_size b).seats) × IsWell (view p)
+      × (get_elem? b.shares.items (view p).seat ≡ some (share_of p)) × (length (recorded p) ≤ (share_of p).calls)
 
-  -- the pass is where it was, on the same board
+  -- the pass is where it was, on the same board, with the same share and the same calls recorded
   abbrev pub IsSamePass : Pass H S → Pass H S → Type 0
   IsSamePass old new = (new.seat.table_id ≡ old.seat.table_id) × ((view new).size ≡ (view old).size) × ((view new).seat ≡ (view old).seat)
       × ((view new).last ≡ (view old).last) × ((view new).rest ≡ (view old).rest) × IsWell (view new)
+      × (share_of new ≡ share_of old) × (new.entries ≡ old.entries)
 
 -- the number of the own install after a store to this word of its descriptor
 abbrev pub number_after : ℕ → ℕ → ℕ → ℕ

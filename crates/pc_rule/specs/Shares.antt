@@ -12,9 +12,10 @@ use Rattle.pc_rule.specs.declared.board.Board.{Board}
 use Rattle.pc_rule.specs.declared.board.Pass.{Pass}
 use Rattle.pc_rule.specs.declared.opening.Place.{Place}
 use Rattle.pc_rule.specs.declared.opening.Posted.{Posted}
-use Rattle.pc_rule.specs.declared.boards.Share.{Share}
+use Rattle.pc_rule.specs.declared.share.Share.{Share}
 use Rattle.pc_rule.specs.Passes.{view, board_size}
 use Rattle.pc_rule.specs.Opened.{AreInOrder}
+use Rattle.pc_rule.specs.Recorded.{HasRoomFor}
 
 -- all passes' slots together
 abbrev pub slots_of : List Share → ℕ
@@ -43,14 +44,15 @@ abbrev pub AreForSentinel : List Posted → Type 0
 AreForSentinel posted = (i : ℕ) (x : Posted) → get_elem? posted i ≡ some x → IsForSentinel x.places.items
 
 module _ {H : Type 0} {S : Ghosts H} where
-  -- the pass with the highest seat takes in all others at the closing
+  -- the pass with the highest seat takes in all others at the closing, and has room for the calls of all
   abbrev pub LastTakesAll : Board H → List (Pass H S) → Type 0
-  LastTakesAll b passes = (i : ℕ) (p : Pass H S) → get_elem? passes i ≡ some p → i + 1 ≡ (board_size b).seats → ((view p).last ≡ true) × ((view p).rest ≡ i)
+  LastTakesAll b passes = (i : ℕ) (p : Pass H S) → get_elem? passes i ≡ some p → i + 1 ≡ (board_size b).seats → ((view p).last ≡ true) × ((view p).rest ≡ i) × HasRoomFor b.shares.items p
 
   -- all passes of the board, in order, and of none does an install stand
   pub record AreAll (b : Board H) (passes : List (Pass H S)) : Type 0 where
     pub some : 0 < (board_size b).seats
     pub count : length passes ≡ (board_size b).seats
+    pub shared : length b.shares.items ≡ (board_size b).seats
     pub order : AreInOrder b passes
     pub last : LastTakesAll b passes
 

@@ -1,8 +1,9 @@
 //! The board, and what a pass steps on it with.
-ghost use Rattle.std.specs.Prelude.{◌≡◌, ◌<◌, ◌≤◌, [], true};
+ghost use Rattle.std.specs.Prelude.{◌≡◌, ◌<◌, ◌≤◌, [], true, length, vec_capacity};
 ghost use Rattle.pc_rule_law.specs.Board.{words_of};
 ghost use Rattle.pc_rule_law.specs.Tables.{size_of};
 
+use crate::share::Share;
 use atomic_table::{Seat, Table};
 use pc_model::{Entry, Shape};
 use pc_rule_law::{Law, Opening, PassView, Starts};
@@ -16,24 +17,28 @@ pub struct Board<H: Shape> {
     pub(crate) seats: usize,
     pub(crate) slots: usize,
     pub(crate) starts: Starts,
-    pub(crate) entries: Vec<Entry>,
-    ghost unrecorded: { entries.items ≡ [] },
+    /// What each pass has of the board, by seats.
+    pub(crate) shares: Vec<Share>,
     ghost started: { starts ≡ table.shared.key.starts },
     ghost sized: { (seats ≡ table.shared.key.seats) × (slots ≡ table.shared.key.slots) },
     ghost wide: { (table.shared.table_id.words ≡ words_of (size_of table.shared.key)) × (table.shared.table_id.slots ≡ 0) },
     ghost small: { (seats ≤ 32) × (slots ≤ 61000) },
 }
 
-/// A seat at a board, with what its pass knows.
+/// A seat at a board, with what its pass knows, and the calls that it recorded. The pass with the highest seat has room
+/// for the calls of all passes, which it takes in at the closing.
 #[derive(Drop)]
 pub struct Pass<H: Shape> {
     pub(crate) seat: Seat<bool, PassView>,
     pub(crate) index: usize,
     pub(crate) installs: u64,
+    pub(crate) share: Share,
+    pub(crate) entries: Vec<Entry>,
     pub(crate) shape: PhantomData<H>,
     ghost live: { seat.me.0.live ≡ true },
     ghost numbered: { seat.me.0.seat ≡ index },
     ghost counted: { seat.me.0.install.number ≡ installs },
     ghost holds_none: { seat.me.1 ≡ [] },
     ghost few: { index < 32 },
+    ghost roomy: { share.calls ≤ vec_capacity entries },
 }

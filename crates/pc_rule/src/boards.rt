@@ -5,22 +5,15 @@ ghost use Rattle.pc_model.specs.Linked.{opening_cells};
 ghost use Rattle.pc_rule_law.specs.Openings.{opening_notes};
 ghost use Rattle.pc_rule.specs.Passes.{board_size};
 ghost use Rattle.pc_rule.specs.Shares.{slots_of, size_for, AreStarts, AreForSentinel, AreAll, AllNoted};
+ghost use Rattle.pc_rule.specs.Recorded.{HaveShares};
 ghost use Rattle.pc_rule.specs.Starting.{all_posted};
 
 use crate::board::{Board, Pass};
 use crate::opening::{Posted, given_start};
+use crate::share::Share;
 use pc_model::{Memory, Shape};
 use pc_rule_law::{Opening, Starts};
 use std::alloc::Global;
-
-/// What one pass has of a board.
-#[derive(Clone, Copy, Debug, PartialEq, Eq)]
-pub struct Share {
-    /// The slots that are its own at the opening.
-    pub slots: u32,
-    /// How many of its calls are recorded.
-    pub calls: u32,
-}
 
 /// The usual starts: attempt 0, install 0, stamp 1, epoch 1, version 0.
 pub fn usual_starts() -> Starts
@@ -64,6 +57,7 @@ fn opened<H: Shape>(
     ensures size { IfOk result (λ r. board_size r.0 ≡ size_for shares.now starts) }
     ensures passes { IfOk result (λ r. AreAll r.0 r.1.items) }
     ensures notes { IfOk result (λ r. AllNoted r.1.items (opening_notes 0 (all_posted posted.now))) }
+    ensures shares { IfOk result (λ r. HaveShares shares.now r.1.items) }
 {
     let Ok(given) = given_start(alloc, posted) else {
         return Err(Memory);
@@ -74,7 +68,7 @@ fn opened<H: Shape>(
         starts,
         given,
     };
-    let Ok(made) = Board::open(alloc, &opening, posted) else {
+    let Ok(made) = Board::open(alloc, &opening, posted, shares) else {
         return Err(Memory);
     };
     Ok(made)
@@ -98,6 +92,7 @@ pub fn open_board<H: Shape>(
     ensures size { IfOk result (λ r. board_size r.0 ≡ size_for shares.now starts) }
     ensures passes { IfOk result (λ r. AreAll r.0 r.1.items) }
     ensures notes { IfOk result (λ r. AllNoted r.1.items []) }
+    ensures shares { IfOk result (λ r. HaveShares shares.now r.1.items) }
 {
     opened(alloc, shares, starts, &[])
 }
@@ -119,6 +114,7 @@ pub fn open_posted<H: Shape>(
     ensures size { IfOk result (λ r. board_size r.0 ≡ size_for shares.now starts) }
     ensures passes { IfOk result (λ r. AreAll r.0 r.1.items) }
     ensures notes { IfOk result (λ r. AllNoted r.1.items (opening_notes 0 (all_posted posted.now))) }
+    ensures shares { IfOk result (λ r. HaveShares shares.now r.1.items) }
 {
     opened(alloc, shares, starts, posted)
 }

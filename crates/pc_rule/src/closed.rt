@@ -1,5 +1,5 @@
 //! What a board leaves. Its words can't change any more.
-ghost use Rattle.std.specs.Prelude.{◌≡◌, []};
+ghost use Rattle.std.specs.Prelude.{◌≡◌};
 ghost use Rattle.std.specs.Mem.Slots.{slots_items, slots_len, IsFull};
 ghost use Rattle.pc_rule_law.specs.Board.{words_of};
 ghost use Rattle.pc_rule_law.specs.Closings.{IsClosed};
@@ -20,7 +20,6 @@ pub struct Closed<H: Shape> {
     pub(crate) shape: PhantomData<H>,
     ghost laid: { IsFull table.words × (slots_len table.words ≡ words_of (size_from seats slots starts)) × (slots_len table.slots ≡ 0) },
     ghost closed: { ∥ IsClosed (AreOpeningCells starts) (size_from seats slots starts) (slots_items table.words) ∥₁ },
-    ghost unrecorded: { entries.items ≡ [] },
 }
 
 impl<H: Shape> Drop for Closed<H> {

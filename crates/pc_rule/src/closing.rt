@@ -1,7 +1,8 @@
 //! The closing of a board. The pass with the highest seat takes in all others.
-ghost use Rattle.std.specs.Prelude.{◌≡◌, [], length};
-ghost use Rattle.pc_rule.specs.Closed.{closed_size};
+ghost use Rattle.std.specs.Prelude.{◌≡◌, ◌<◌, [], length};
+ghost use Rattle.pc_rule.specs.Closed.{closed_size, history_of};
 ghost use Rattle.pc_rule.specs.Passes.{board_size};
+ghost use Rattle.pc_rule.specs.Recorded.{IsHistoryOf};
 ghost use Rattle.pc_rule.specs.Shares.{AreAll};
 
 use crate::board::{Board, Pass};
@@ -9,11 +10,12 @@ use crate::closed::Closed;
 use pc_model::{Entry, Shape};
 use std::marker::PhantomData;
 
-/// Closes a board with all its passes, in the order of their numbers, of which no install stands. It takes no memory and
-/// can't be refused.
+/// Closes a board with all its passes, in the order of their numbers, of which no install stands. What is left has the
+/// calls that they recorded, by rising stamps. It takes no memory and can't be refused.
 pub fn close_board<H: Shape>(board: Board<H>, mut passes: Vec<Pass<H>>) -> Closed<H>
     requires passes { AreAll board passes.items }
     ensures size { closed_size result ≡ board_size board }
+    ensures history { IsHistoryOf passes.items (history_of result) }
 {
     let seats = board.seats;
     let slots = board.slots;
@@ -22,7 +24,8 @@ pub fn close_board<H: Shape>(board: Board<H>, mut passes: Vec<Pass<H>>) -> Close
         unreachable!()
     };
     board.take_all(&mut last, passes);
-    let (table, entries) = board.end(last);
+    let (table, mut entries) = board.end(last);
+    entries.sort_unstable_by_key(|entry| entry.stamp);
     Closed {
         table,
         seats,
@@ -34,9 +37,9 @@ pub fn close_board<H: Shape>(board: Board<H>, mut passes: Vec<Pass<H>>) -> Close
 }
 
 impl<H: Shape> Closed<H> {
-    /// The recorded calls of all passes by rising stamp: none, as long as passes record nothing.
+    /// The calls that the passes of the board recorded, by rising stamps.
     pub fn history(&self) -> &[Entry]
-        ensures { result.now ≡ [] }
+        ensures { result.now ≡ history_of self.now }
     {
         self.entries.as_slice()
     }

@@ -12,14 +12,17 @@ mod numbered;
 mod opening;
 mod own;
 mod places;
+mod recorded;
 mod refs;
+mod share;
 mod steps;
 
 pub use board::{Board, Pass};
-pub use boards::{Share, open_board, open_posted, usual_starts};
+pub use boards::{open_board, open_posted, usual_starts};
 pub use closed::Closed;
 pub use closing::close_board;
 pub use opening::{Place, Posted};
 pub use pc_rule_law::Starts;
 pub use refs::{Ref, RefKind};
+pub use share::Share;
 pub use steps::{step_3, step_4, step_5, step_6, step_7, step_8};

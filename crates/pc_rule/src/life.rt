@@ -1,5 +1,8 @@
 //! How a board is opened with its passes.
-ghost use Rattle.std.specs.Prelude.{IfOk, true, [], ◌≡◌, ◌+◌, ◌<◌, ◌≤◌, ◌^◌, length, map};
+ghost use Rattle.std.specs.Prelude.{IfOk, true, [], ◌≡◌, ◌++◌, ◌+◌, ◌<◌, ◌≤◌, ◌^◌, length, map, vec_capacity};
+ghost use Rattle.std.specs.List.Sorted.{IsPermutation};
+ghost use mathlib.Core.Option.{some};
+ghost use lib.ListN.{get_elem?};
 ghost use Rattle.pc_model.specs.Linked.{opening_cells};
 ghost use Rattle.std.specs.Mem.Slots.{slots_items, slots_len, IsFull};
 ghost use Rattle.pc_rule_law.specs.Board.{words_of};
@@ -8,12 +11,15 @@ ghost use Rattle.pc_rule_law.specs.Conditions.{IsFree};
 ghost use Rattle.pc_rule_law.specs.Openings.{MayOpen, opening_notes};
 ghost use Rattle.pc_rule_law.specs.Seats.{maker, made_by, joined_by};
 ghost use Rattle.pc_rule_law.specs.Tables.{size_of, note_of, first_view, sound_cells};
-ghost use Rattle.pc_rule.specs.Passes.{view, board_size, IsPassOf};
+ghost use Rattle.pc_rule.specs.Passes.{view, board_size, share_of, recorded, SitsAt, IsPassOf};
+ghost use Rattle.pc_rule.specs.Recorded.{calls_of, recorded_by, HasRoomFor};
 ghost use Rattle.pc_rule.specs.Opened.{AreOpened, AreInOrder};
 ghost use Rattle.pc_rule.specs.Starting.{all_posted};
 
 use crate::board::{Board, Pass};
 use crate::opening::{Posted, words_start};
+use crate::recorded::room_for;
+use crate::share::Share;
 use atomic_table::{Closed, Table};
 use pc_model::{Entry, Shape};
 use pc_rule_law::{JoinPass, Law, MakePass, Opening, PassView};
@@ -26,12 +32,18 @@ impl<H: Shape> Board<H> {
         alloc: Global,
         opening: &Opening,
         posted: &[Posted],
+        shares: &[Share],
     ) -> Result<(Board<H>, Pass<H>), AllocError>
         requires small { (opening.now.slots ≤ 61000) × (opening.now.seats ≤ 32) × (opening.now.starts.attempt < 2 ^ 28) × (opening.now.starts.version < 2 ^ 60) }
         requires may { MayOpen (sound_cells H.form opening.now) (size_of opening.now) (opening_cells opening.now.starts.version) (all_posted posted.now) }
         requires given { map note_of opening.now.given.items ≡ opening_notes 0 (all_posted posted.now) }
-        ensures { IfOk result (λ r. (board_size r.0 ≡ size_of opening.now) × IsPassOf r.0 r.1 × (view r.1 ≡ first_view opening.now)) }
+        requires shares { (length shares.now ≡ opening.now.seats) × (1 ≤ length shares.now) }
+        ensures opened { IfOk result (λ r. (board_size r.0 ≡ size_of opening.now) × (r.0.shares.items ≡ shares.now) × IsPassOf r.0 r.1 × (view r.1 ≡ first_view opening.now)) }
+        ensures room { IfOk result (λ r. (recorded r.1 ≡ []) × (1 ≡ length shares.now → HasRoomFor shares.now r.1)) }
     {
+        let entries = room_for(alloc, shares, 0)?;
+        let mut kept = Vec::new(alloc);
+        kept.extend_from_slice(shares)?;
         let words = words_start(alloc, opening, posted)?;
         let (table, seat) = Table::<bool, PassView, Opening, Law<H>, Global>::of_words(
             alloc,
@@ -43,30 +55,43 @@ impl<H: Shape> Board<H> {
             seats: opening.seats,
             slots: opening.slots,
             starts: opening.starts,
-            entries: Vec::new(alloc),
+            shares: kept,
         };
         let pass = Pass {
             seat,
             index: 0,
             installs: opening.starts.install,
+            share: shares[0],
+            entries,
             shape: PhantomData,
         };
         Ok((board, pass))
     }
 
-    /// The last pass makes another.
-    fn another(&self, last: &mut Pass<H>, index: usize, installs: u64) -> Pass<H>
+    /// The last pass makes another, with this share and this room for its calls.
+    fn another(
+        &self,
+        last: &mut Pass<H>,
+        index: usize,
+        share: Share,
+        entries: Vec<Entry>,
+    ) -> Pass<H>
         requires pass { IsPassOf self.now last.old × ((view last.old).last ≡ true) }
         requires index { ((view last.old).seat + 1 ≡ index) × (index < (board_size self.now).seats) }
-        requires installs { installs ≡ (board_size self.now).starts.install }
+        requires share { get_elem? self.now.shares.items index ≡ some share }
+        requires room { (entries.items ≡ []) × (share.calls ≤ vec_capacity entries) }
         ensures pass { IsPassOf self.now last.new × (view last.new ≡ maker (view last.old)) }
+        ensures kept { recorded last.new ≡ recorded last.old }
         ensures made { IsPassOf self.now result × (view result ≡ made_by (view last.old)) }
+        ensures room { (recorded result ≡ []) × (vec_capacity result.entries ≡ vec_capacity entries) }
     {
         let seat = self.table.shared.split_seat::<MakePass>(&mut last.seat);
         Pass {
             seat,
             index,
-            installs,
+            installs: self.starts.install,
+            share,
+            entries,
             shape: PhantomData,
         }
     }
@@ -76,17 +101,20 @@ impl<H: Shape> Board<H> {
         alloc: Global,
         opening: &Opening,
         posted: &[Posted],
+        shares: &[Share],
     ) -> Result<(Board<H>, Vec<Pass<H>>), AllocError>
         requires small { (opening.now.slots ≤ 61000) × (opening.now.seats ≤ 32) × (opening.now.starts.attempt < 2 ^ 28) × (opening.now.starts.version < 2 ^ 60) }
         requires may { MayOpen (sound_cells H.form opening.now) (size_of opening.now) (opening_cells opening.now.starts.version) (all_posted posted.now) }
         requires given { map note_of opening.now.given.items ≡ opening_notes 0 (all_posted posted.now) }
-        ensures { IfOk result (λ r. (board_size r.0 ≡ size_of opening.now) × AreOpened r.0 opening.now r.1.items) }
+        requires shares { (length shares.now ≡ opening.now.seats) × (1 ≤ length shares.now) }
+        ensures { IfOk result (λ r. (board_size r.0 ≡ size_of opening.now) × (r.0.shares.items ≡ shares.now) × AreOpened r.0 opening.now r.1.items) }
     {
         let mut passes = Vec::with_capacity(alloc, opening.seats)?;
-        let (board, mut last) = Board::first(alloc, opening, posted)?;
+        let (board, mut last) = Board::first(alloc, opening, posted, shares)?;
         let mut made = 0;
         while made + 1 < opening.seats {
-            let next = board.another(&mut last, made + 1, opening.starts.install);
+            let entries = room_for(alloc, shares, made + 1)?;
+            let next = board.another(&mut last, made + 1, shares[made + 1], entries);
             passes.push_reserved(last);
             last = next;
             made += 1;
@@ -95,24 +123,36 @@ impl<H: Shape> Board<H> {
         Ok((board, passes))
     }
 
-    /// The last pass takes in another, of which no install stands.
+    /// The last pass takes in another, of which no install stands, with the calls that it recorded.
     fn take_in(&self, last: &mut Pass<H>, other: Pass<H>)
-        requires passes { IsPassOf self.now last.old × IsPassOf self.now other }
+        requires passes { SitsAt self.now last.old × SitsAt self.now other }
         requires rest { (view last.old).rest ≡ (view other).seat + 1 }
         requires free { IsFree (view other) }
-        ensures pass { IsPassOf self.now last.new × (view last.new ≡ joined_by (view last.old) (view other)) }
+        requires room { length (recorded last.old) + length (recorded other) ≤ vec_capacity last.old.entries }
+        ensures pass { SitsAt self.now last.new × (view last.new ≡ joined_by (view last.old) (view other)) }
+        ensures entries { recorded last.new ≡ recorded last.old ++ recorded other }
+        ensures capacity { vec_capacity last.old.entries ≤ vec_capacity last.new.entries }
     {
-        let Pass { seat, .. } = other;
+        let Pass {
+            seat,
+            mut entries,
+            ..
+        } = other;
         self.table
             .shared
             .join_seat::<JoinPass>(&mut last.seat, seat);
+        let Ok(()) = last.entries.append(&mut entries) else {
+            unreachable!()
+        };
     }
 
-    /// The last pass takes in all others, from the highest seat down.
+    /// The last pass takes in all others, from the highest seat down, with the calls that they recorded.
     pub(crate) fn take_all(&self, last: &mut Pass<H>, mut others: Vec<Pass<H>>)
-        requires last { IsPassOf self.now last.old × ((view last.old).rest ≡ length others.items) }
-        requires others { AreInOrder self.now others.items }
-        ensures pass { IsPassOf self.now last.new × (view last.new ≡ record (view last.old) { rest = 0 }) }
+        requires last { IsPassOf self.now last.old × ((view last.old).seat ≡ length others.items) × ((view last.old).rest ≡ length others.items) }
+        requires others { AreInOrder self.now others.items × (length others.items + 1 ≡ length self.now.shares.items) }
+        requires room { HasRoomFor self.now.shares.items last.old }
+        ensures pass { SitsAt self.now last.new × (view last.new ≡ record (view last.old) { rest = 0 }) }
+        ensures entries { IsPermutation (recorded_by others.items ++ recorded last.old) (recorded last.new) }
     {
         while let Some(other) = others.pop() {
             self.take_in(last, other);
@@ -122,14 +162,14 @@ impl<H: Shape> Board<H> {
     /// Ends the board, when the last pass has taken in all others and no install of its own stands: the words that are left
     /// are those of a closed board.
     pub(crate) fn end(self, last: Pass<H>) -> (Closed<bool, Global>, Vec<Entry>)
-        requires pass { IsPassOf self last × ((view last).last ≡ true) × ((view last).rest ≡ 0) }
+        requires pass { SitsAt self last × ((view last).last ≡ true) × ((view last).rest ≡ 0) }
         requires free { IsFree (view last) }
         ensures closed { IsClosed (sound_cells H.form self.table.shared.key) (board_size self) (slots_items result.0.words) }
         ensures laid { IsFull result.0.words × (slots_len result.0.words ≡ words_of (board_size self)) × (slots_len result.0.slots ≡ 0) }
-        ensures unrecorded { result.1.items ≡ [] }
+        ensures entries { result.1.items ≡ recorded last }
     {
-        let Board { table, entries, .. } = self;
-        let Pass { seat, .. } = last;
+        let Board { table, .. } = self;
+        let Pass { seat, entries, .. } = last;
         (table.close_with(seat), entries)
     }
 }

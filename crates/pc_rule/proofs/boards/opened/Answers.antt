@@ -2,7 +2,7 @@ use Rattle.std.proofs.Common.{◌≡◌, ◌≤◌, ℕ, ◌^◌, ◌+◌, ◌<�
 use Rattle.pc_model.specs.declared.cell.Field.{Field}
 use Rattle.pc_model.specs.Linked.{opening_cells}
 use Rattle.pc_rule.specs.Starting.{posted_of, all_posted}
-use Rattle.pc_rule.proofs.Opened.{all_opened, all_noted}
+use Rattle.pc_rule.proofs.Opened.{all_opened, all_noted, all_shared}
 use Rattle.pc_rule.proofs.Sharing.{length_map, all_formed, small_cells}
 use Rattle.pc_rule_law.specs.declared.opening.Opening.{Opening}
 use Rattle.pc_rule.proofs.boards.opened.Goals as goal
@@ -18,7 +18,10 @@ open-requires-clause-may g c = λ _ _. let r = c.requires in record {
 }
 
 pub returns-clause-passes : goal.returns-clause-passes
-returns-clause-passes g c = let e = c.in-Ok-open.ensures in all_opened c.in-Ok-open.made.0 (record { seats = length c.args.shares.now; slots = c.all_slots.result; starts = c.args.starts; given = c.in-Ok.given }) c.in-Ok-open.made.1.items e.1 (let one = c.requires.shares.0 in omega arith) e.0
+returns-clause-passes g c = let e = c.in-Ok-open.ensures in all_opened c.in-Ok-open.made.0 (record { seats = length c.args.shares.now; slots = c.all_slots.result; starts = c.args.starts; given = c.in-Ok.given }) c.in-Ok-open.made.1.items e.2 (let one = c.requires.shares.0 in omega arith) e.0 (ap length e.1)
 
 pub returns-clause-notes : goal.returns-clause-notes
-returns-clause-notes g c = let e = c.in-Ok-open.ensures in all_noted c.in-Ok-open.made.0 (record { seats = length c.args.shares.now; slots = c.all_slots.result; starts = c.args.starts; given = c.in-Ok.given }) c.in-Ok-open.made.1.items e.1 _ c.in-Ok.ensures
+returns-clause-notes g c = let e = c.in-Ok-open.ensures in all_noted c.in-Ok-open.made.0 (record { seats = length c.args.shares.now; slots = c.all_slots.result; starts = c.args.starts; given = c.in-Ok.given }) c.in-Ok-open.made.1.items e.2 _ c.in-Ok.ensures
+
+pub returns-clause-shares : goal.returns-clause-shares
+returns-clause-shares g c = let e = c.in-Ok-open.ensures in all_shared c.in-Ok-open.made.0 (record { seats = length c.args.shares.now; slots = c.all_slots.result; starts = c.args.starts; given = c.in-Ok.given }) c.in-Ok-open.made.1.items e.2 c.args.shares.now e.1

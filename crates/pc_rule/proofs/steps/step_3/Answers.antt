@@ -31,6 +31,7 @@ invariant_of-pass g c = let t = c.store.ensures.2 in let v : View = c.args.pass.
       counted = ap (λ (u : View). u.install.number) told ∙ (number_stored v.install c.args.place c.args.new ∙ (ap (number_after c.args.place c.args.new) c.args.pass.now.counted ∙ sym c.number_then-pass.ensures));
       holds_none = t.0 ∙ c.args.pass.now.holds_none;
       few = c.args.pass.now.few;
+      roomy = c.args.pass.now.roomy;
     }
 
 pub returns-clause-told : goal.returns-clause-told

@@ -27,6 +27,7 @@ invariant_of-pass g c = let t = c.load.ensures.2 in let v : View = c.args.pass.n
       counted = ap (λ (w : View). w.install.number) told.later.same ∙ c.args.pass.now.counted;
       holds_none = t.0 ∙ c.args.pass.now.holds_none;
       few = c.args.pass.now.few;
+      roomy = c.args.pass.now.roomy;
     }
 
 pub returns-clause-told : goal.returns-clause-told

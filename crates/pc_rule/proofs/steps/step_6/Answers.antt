@@ -28,6 +28,7 @@ invariant_of-pass g c = let t = c.compare_exchange.ensures.2 in let v : View = c
       counted = same ∙ c.args.pass.now.counted;
       holds_none = t.0 ∙ c.args.pass.now.holds_none;
       few = c.args.pass.now.few;
+      roomy = c.args.pass.now.roomy;
     }
 
 pub returns-clause-told : goal.returns-clause-told

@@ -1,9 +1,22 @@
-use Rattle.std.proofs.Common.{rules, ◌≡◌, ℕ, ◌+◌, ◌<◌, length, sym, ap, ◌∙◌, subst, arith}
+use Rattle.std.proofs.Common.{rules, ◌≡◌, ℕ, ◌+◌, ◌<◌, ◌≤◌, [], length, vec_capacity, sym, ap, ◌∙◌, subst, arith}
 use Rattle.pc_rule_law.specs.Seats.{maker, made_by}
 use Rattle.pc_rule_law.proofs.Lists.{each_snoc, below_length}
-use Rattle.pc_rule.specs.Opened.{last_view}
-use Rattle.pc_rule.specs.Passes.{view, IsPassOf}
+use Rattle.pc_model.specs.declared.call.Entry.{Entry}
+use Rattle.pc_rule.specs.Opened.{last_view, IsLastMade}
+use Rattle.pc_rule.specs.Passes.{view, recorded, IsPassOf}
+use Rattle.pc_rule.specs.Recorded.{calls_of}
+use Rattle.pc_rule.proofs.Starting.{element}
 use Rattle.pc_rule.proofs.board.Board.open.Goals as goal
+
+pub another-next-requires-clause-share : goal.another-next-requires-clause-share
+another-next-requires-clause-share g c = λ _ _. let inv = c.loop-made.invariant in let n = c.requires.shares.0 in let lt = c.loop-made-test.true in
+    rw inv.shares (element c.args.shares.now (c.loop-made.made + 1) (record { slots = 0; calls = 0 }) (omega arith))
+
+pub another-next-requires-clause-room : goal.another-next-requires-clause-room
+another-next-requires-clause-room g c = λ _ _. let n = c.requires.shares.0 in let lt = c.loop-made-test.true in (
+  c.in_ok-entries.ensures.none,
+  c.in_ok-entries.ensures.own _ (element c.args.shares.now (c.loop-made.made + 1) (record { slots = 0; calls = 0 }) (omega arith)),
+)
 
 pub loop-made-preserved : goal.loop-made-preserved
 loop-made-preserved g c = let inv = c.loop-made.invariant in let o = c.args.opening.now in let b = c.in_ok-board.board in let a = c.another-next.ensures in let passes = c.loop-made.passes.items in let last = c.another-next.new.last in
@@ -11,9 +24,15 @@ loop-made-preserved g c = let inv = c.loop-made.invariant in let o = c.args.open
       sized = inv.sized;
       count = search rules;
       room = search rules;
-      last = (a.made.0, a.made.1 ∙ ap made_by inv.last.1);
-      made = rw c.push_reserved.ensures.items (each_snoc passes last (λ i p. IsPassOf b p × (view p ≡ maker (last_view o i))) inv.made
-          (subst (λ (i : ℕ). IsPassOf b last × (view last ≡ maker (last_view o i))) (sym inv.count) (a.pass.0, a.pass.1 ∙ ap maker inv.last.1)));
+      shares = inv.shares;
+      last = (
+        a.made.0,
+        a.made.1 ∙ ap made_by inv.last.1,
+        a.room.0,
+        λ e. rw inv.shares (let n = c.requires.shares.0 in let all : calls_of c.args.shares.now ≤ vec_capacity c.in_ok-entries.entries = c.in_ok-entries.ensures.all (e ∙ sym n) in let same = a.room.1 in omega arith),
+      );
+      made = rw c.push_reserved.ensures.items (each_snoc passes last (λ i p. IsPassOf b p × (view p ≡ maker (last_view o i)) × (recorded p ≡ [])) inv.made
+          (subst (λ (i : ℕ). IsPassOf b last × (view last ≡ maker (last_view o i)) × (recorded last ≡ [])) (sym inv.count) (a.pass.0, a.pass.1 ∙ ap maker inv.last.1, a.kept ∙ inv.last.2)));
     }
 
 pub returns : goal.returns
@@ -21,10 +40,11 @@ returns g c = let inv = c.loop-made.invariant in let o = c.args.opening.now in l
     let count : length passes ≡ c.loop-made.made = inv.count in
     let all : c.loop-made.made + 1 ≡ o.seats = (let lt = inv.room.1 in let ge = c.loop-made-test.false in omega arith) in (
       inv.sized,
+      inv.shares,
       (
         (search rules),
-        rw c.push_reserved-2.ensures.items (each_snoc passes last (λ i p. IsPassOf b p × (i + 1 < o.seats → view p ≡ maker (last_view o i)) × (i + 1 ≡ o.seats → view p ≡ last_view o i))
-            (λ i p at. let q = inv.made i p at in let lt = below_length passes i p at in (q.0, (λ _. q.1), λ e. absurd (omega arith)))
-            (subst (λ (i : ℕ). IsPassOf b last × (i + 1 < o.seats → view last ≡ maker (last_view o i)) × (i + 1 ≡ o.seats → view last ≡ last_view o i)) (sym count) (inv.last.0, (λ lt. absurd (omega arith)), λ _. inv.last.1))),
+        rw c.push_reserved-2.ensures.items (each_snoc passes last (λ i p. (i + 1 < o.seats → IsPassOf b p × (view p ≡ maker (last_view o i)) × (recorded p ≡ [])) × (i + 1 ≡ o.seats → IsLastMade b o i p))
+            (λ i p at. let q = inv.made i p at in let lt = below_length passes i p at in ((λ _. q), λ e. absurd (omega arith)))
+            (subst (λ (i : ℕ). (i + 1 < o.seats → IsPassOf b last × (view last ≡ maker (last_view o i)) × (recorded last ≡ [])) × (i + 1 ≡ o.seats → IsLastMade b o i last)) (sym count) ((λ lt. absurd (omega arith)), λ _. inv.last))),
       ),
     )

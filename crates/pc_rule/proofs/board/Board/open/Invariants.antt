@@ -1,8 +1,8 @@
 -- The passes that were made, each from the one before it, and the last one.
 use Rattle.std.proofs.Common.{◌≡◌, ◌<◌, ◌-◌, length}
 use Rattle.pc_rule_law.specs.Tables.{size_of}
-use Rattle.pc_rule.specs.Opened.{last_view, AreMade}
-use Rattle.pc_rule.specs.Passes.{view, board_size, IsPassOf}
+use Rattle.pc_rule.specs.Opened.{AreMade, IsLastMade}
+use Rattle.pc_rule.specs.Passes.{board_size}
 use Rattle.pc_rule.proofs.board.Board.open.Given as goal
 
 abbrev pub invariant-loop-made : goal.invariant-loop-made
@@ -10,7 +10,8 @@ invariant-loop-made g l = record {
   sized : board_size l.board ≡ size_of l.opening;
   count : length l.passes.items ≡ l.made;
   room : (l.passes.cap ≡ l.initial.passes.cap) × (l.made < l.opening.seats);
-  last : IsPassOf l.board l.last × (view l.last ≡ last_view l.opening l.made);
+  shares : l.board.shares.items ≡ l.shares;
+  last : IsLastMade l.board l.opening l.made l.last;
   made : AreMade l.board l.opening l.passes.items;
 }
 
