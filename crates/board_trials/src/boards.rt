@@ -1,6 +1,9 @@
 //! Boards that open and close.
-use pc_model::{Loose, Memory};
-use pc_rule::{Share, close_board, open_board, usual_starts};
+ghost use Rattle.pc_model.specs.Cells.{IsNode};
+ghost use Rattle.pc_rule.specs.Closed.{closed_size};
+
+use pc_model::{Field, Loose, Memory};
+use pc_rule::{Closed, Share, close_board, open_board, usual_starts};
 
 #[test]
 fn a_board_of_four_passes_opens_and_closes(rt: HostRuntime) -> Result<(), Memory> {
@@ -10,6 +13,37 @@ fn a_board_of_four_passes_opens_and_closes(rt: HostRuntime) -> Result<(), Memory
     let count = passes.len();
     let closed = close_board(board, passes);
     assert_eq!(rt; (count, closed.history().len()), (4, 0));
+    Ok(())
+}
+
+// What stands in the fields of a node.
+fn fields(closed: &Closed<Loose>, node: u32) -> [u64; 8]
+    requires { IsNode (closed_size closed.now).slots node }
+{
+    [
+        closed.cell(node, Field::Version),
+        closed.cell(node, Field::Key),
+        closed.cell(node, Field::Value),
+        closed.cell(node, Field::Left),
+        closed.cell(node, Field::Right),
+        closed.cell(node, Field::Parent),
+        closed.cell(node, Field::Height),
+        closed.cell(node, Field::Spare),
+    ]
+}
+
+#[test]
+fn a_closed_board_has_the_cells_that_it_opened_with(rt: HostRuntime) -> Result<(), Memory> {
+    let share = Share { slots: 1, calls: 0 };
+    let shares = [share, share, share, share];
+    let (board, passes) = open_board(rt.alloc(), Loose, &shares, usual_starts())?;
+    let closed = close_board(board, passes);
+    // It is proved before it runs, from what the three calls promise.
+    let key = closed.cell(1, Field::Key);
+    prove!(key == 4611686018427387903);
+    let found = [fields(&closed, 1), fields(&closed, 2)];
+    let sentinel = [0, 4611686018427387903, 0, 0, 0, 0, 0, 0];
+    assert_eq!(rt; found, [sentinel, [1, 0, 0, 0, 0, 0, 0, 0]]);
     Ok(())
 }
 

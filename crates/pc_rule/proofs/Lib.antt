@@ -2,6 +2,7 @@ pub mod BoardSizes
 pub mod Ends
 pub mod Filling
 pub mod Giving
+pub mod Left
 pub mod Numbers
 pub mod Opened
 pub mod Remaining

@@ -16,7 +16,7 @@ module _ {H : Type 0} (b : Board H) where
       ∙ (ap (λ (n : ℕ). size_from key.seats n b.starts) b.sized.1 ∙ ap (λ (s : Starts). size_from key.seats key.slots s) b.started)
 
   with_cells : (form : Form) (z : Size) (words : List ℕ) → IsClosed (sound_cells form b.table.shared.key) z words → IsClosed (AreOpeningCells b.table.shared.key.starts) z words
-  with_cells form z words c = record { board = c.board; cells = c.cells; represents = c.represents; sound_cells = c.sound_cells.1; no_install = c.no_install; plain = c.plain; one = c.one }
+  with_cells form z words c = record { board = c.board; cells = c.cells; represents = c.represents; sound_cells = c.sound_cells.1; no_install = c.no_install; ranges = c.ranges; statuses = c.statuses; referred = c.referred; plain = c.plain; one = c.one }
 
   pub opening_stands : (form : Form) (words : List ℕ) → IsClosed (sound_cells form b.table.shared.key) (board_size b) words → IsClosed (AreOpeningCells b.starts) (size_from b.seats b.slots b.starts) words
   opening_stands form words c = subst (λ (z : Size). IsClosed (AreOpeningCells b.starts) z words) (sym same_size)

@@ -1,5 +1,6 @@
 pub mod Closed
 pub mod Conditions
+pub mod Left
 pub mod Opened
 pub mod Passes
 pub mod Recorded

@@ -3,7 +3,7 @@ ghost use Rattle.std.specs.Prelude.{◌≡◌};
 ghost use Rattle.std.specs.Mem.Slots.{slots_items, slots_len, IsFull};
 ghost use Rattle.pc_rule_law.specs.Board.{words_of};
 ghost use Rattle.pc_rule_law.specs.Closings.{IsClosed};
-ghost use Rattle.pc_rule.specs.Sizes.{size_from, AreOpeningCells};
+ghost use Rattle.pc_rule.specs.Sizes.{size_from, AreWithinLimits, AreOpeningCells};
 
 use pc_model::{Entry, Shape};
 use pc_rule_law::Starts;
@@ -18,6 +18,7 @@ pub struct Closed<H: Shape> {
     pub(crate) starts: Starts,
     pub(crate) entries: Vec<Entry>,
     pub(crate) shape: PhantomData<H>,
+    ghost small: { AreWithinLimits seats slots },
     ghost laid: { IsFull table.words × (slots_len table.words ≡ words_of (size_from seats slots starts)) × (slots_len table.slots ≡ 0) },
     ghost closed: { ∥ IsClosed (AreOpeningCells starts) (size_from seats slots starts) (slots_items table.words) ∥₁ },
 }

@@ -4,6 +4,8 @@ ghost use Rattle.pc_rule.specs.Closed.{closed_size, history_of};
 ghost use Rattle.pc_rule.specs.Passes.{board_size};
 ghost use Rattle.pc_rule.specs.Recorded.{IsHistoryOf};
 ghost use Rattle.pc_rule.specs.Shares.{AreAll};
+ghost use Rattle.pc_rule.specs.Left.{LeavesCells, HasNoInstall};
+ghost use Rattle.pc_model.specs.Linked.{opening_cells};
 
 use crate::board::{Board, Pass};
 use crate::closed::Closed;
@@ -14,6 +16,8 @@ use std::marker::PhantomData;
 /// calls that they recorded, by rising stamps. It takes no memory and can't be refused.
 pub fn close_board<H: Shape>(board: Board<H>, mut passes: Vec<Pass<H>>) -> Closed<H>
     requires passes { AreAll board passes.items }
+    ensures installs { HasNoInstall result }
+    ensures cells { LeavesCells result (opening_cells (board_size board).starts.version) }
     ensures size { closed_size result ≡ board_size board }
     ensures history { IsHistoryOf passes.items (history_of result) }
 {

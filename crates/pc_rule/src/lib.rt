@@ -5,6 +5,7 @@
 
 mod board;
 mod boards;
+mod cells;
 mod closed;
 mod closing;
 mod life;

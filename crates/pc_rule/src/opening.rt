@@ -7,7 +7,7 @@ ghost use Rattle.pc_rule_law.specs.Tables.{size_of, note_of};
 ghost use Rattle.pc_rule_law.specs.Openings.{posted_stage, opening_status, opening_changes, changes_word, descriptor_word, entries_of, opening_notes};
 ghost use Rattle.pc_rule.specs.Starting.{change_of, all_posted, cell_number, own_number, starting_board};
 
-use crate::places::field_place;
+use crate::places::cell_place;
 use pc_model::Field;
 use pc_rule_law::{Given, Opening, Starts};
 use pc_words::{Stage, Status, pack};
@@ -77,7 +77,7 @@ fn stage_start(undecided: bool) -> Stage
 fn number_of_word(node: u32, field: Field) -> u64
     ensures { result ≡ place_number node field }
 {
-    8 * u64::from(node) + field_place(field) as u64
+    cell_place(node, field) as u64
 }
 
 /// The word of these changes at this place, three for each.

@@ -11,6 +11,7 @@ pub mod Looks
 pub mod Openings
 pub mod Outcomes
 pub mod Places
+pub mod ReadingBack
 pub mod Seats
 pub mod Stages
 pub mod StatusLooks
@@ -21,3 +22,4 @@ pub mod Values
 pub mod WordKinds
 pub mod WordMoves
 mod WorkedBoard
+mod WorkedClosing

@@ -1,12 +1,13 @@
 -- The board as plain data: where each of its words lies, and which number it shows. One relation, `Represents`, says
--- that the words of the table are those of a board; no other definition sees bits or addresses.
+-- that the words of the table are those of a board, and `board_in` reads them back; no other definition sees bits or
+-- addresses.
 use Rattle.std.specs.Prelude.{◌≡◌, ◌≢◌, ℕ, ◌+◌, ◌*◌, ◌/◌, ◌<◌, ◌==◌, ◌&&◌, if◌then◌else◌, List, length, slice_index}
 use Rattle.pc_model.specs.declared.cell.Field.{Field}
 use Rattle.pc_model.specs.Cells.{field_number, IsNode}
 use Rattle.pc_words.specs.declared.word.WordKind.{WordKind}
 use Rattle.pc_words.specs.declared.status.Status.{Status}
-use Rattle.pc_words.specs.Words.{raw}
-use Rattle.pc_words.specs.Statuses.{packed}
+use Rattle.pc_words.specs.Words.{raw, kind}
+use Rattle.pc_words.specs.Statuses.{packed, unpacked}
 
 -- what the counters of a board open at
 pub record Starts : Type 0 where
@@ -114,6 +115,18 @@ shows b (at_cell n f) = raw (b.cell n f)
 pub record Represents (z : Size) (words : List ℕ) (b : Board) : Type 0 where
   pub wide : length words ≡ words_of z
   pub each : (p : Place) → Inside z p → slice_index words (address z p) ≡ shows b p
+
+-- the board that these words are, each read back at its address
+abbrev pub board_in : Size → List ℕ → Board
+board_in z words = record {
+  clock = slice_index words (address z at_clock);
+  epoch = slice_index words (address z at_epoch);
+  status = λ p. unpacked (slice_index words (address z (at_own p own_status)));
+  announced = λ p. slice_index words (address z (at_own p own_epoch));
+  install = λ q k. slice_index words (address z (at_own q (own_install k)));
+  word = λ p k. slice_index words (address z (at_own p (own_word k)));
+  cell = λ n f. kind (slice_index words (address z (at_cell n f)));
+}
 
 -- the board shows the same everywhere but at this place
 abbrev pub Only : Place → Board → Board → Type 0

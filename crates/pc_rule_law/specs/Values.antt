@@ -14,3 +14,8 @@ IsPlainValue b n f (Install q k) v = (b.install q 0 ≡ k) × (b.install q 2 ≡
 IsPlainValue b n f (Exchange p a) v = ((b.status p).number ≡ a) × (i : ℕ) × (i < b.word p 1)
     × (b.word p (3 + 3 * i) ≡ place_number n f)
     × (value_by (b.status p).stage (b.word p (4 + 3 * i)) (b.word p (5 + 3 * i)) ≡ v)
+
+-- this word of the board says this plain value, and no other
+pub record HasPlainValue (b : Board) (n : ℕ) (f : Field) (v : ℕ) : Type 0 where
+  pub says : IsPlainValue b n f (b.cell n f) v
+  pub no_other : (x : ℕ) → IsPlainValue b n f (b.cell n f) x → x ≡ v

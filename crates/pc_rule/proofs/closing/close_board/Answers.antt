@@ -10,6 +10,7 @@ use Rattle.pc_rule.specs.Recorded.{recorded_by, HasRoomFor}
 use Rattle.pc_rule.proofs.Rooms.{recorded_last}
 use Rattle.pc_rule.proofs.Remaining.{same_size, opening_stands}
 use Rattle.pc_rule.proofs.Ends.{each_front, each_last}
+use Rattle.pc_rule.proofs.Left.{cells_stand, none_stand}
 use Rattle.pc_rule.proofs.closing.close_board.Goals as goal
 
 pub take_all-requires-clause-last : goal.take_all-requires-clause-last
@@ -44,8 +45,15 @@ pub end-table-requires-clause-free : goal.end-table-requires-clause-free
 end-table-requires-clause-free g c = λ _ _. let b = c.args.board in
     subst IsFree (sym c.take_all.ensures.pass.1) (each_last c.args.passes.items c.pop.new.self.items c.in-Some.last (λ i p. IsPassOf b p × ((view p).seat ≡ i) × IsFree (view p)) c.in-Some.ensures.items c.requires.passes.order).2
 
+pub returns-clause-installs : goal.returns-clause-installs
+returns-clause-installs g c = none_stand c.args.board g.H.Shape.form _ c.end-table.ensures.closed
+
+pub returns-clause-cells : goal.returns-clause-cells
+returns-clause-cells g c = cells_stand c.args.board g.H.Shape.form _ c.end-table.ensures.closed
+
 pub invariant_of-result : goal.invariant_of-result
 invariant_of-result g c = let e = c.end-table.ensures in let b = c.args.board in record {
+  small = b.small;
   laid = (e.laid.0, e.laid.1 ∙ ap words_of (sym (same_size b)), e.laid.2);
   closed = ∣ opening_stands b g.H.Shape.form _ e.closed ∣₁;
 }
