@@ -5,4 +5,8 @@
 #[cfg(test)]
 mod boards;
 #[cfg(test)]
+mod installs;
+#[cfg(test)]
+mod meetings;
+#[cfg(test)]
 mod words;

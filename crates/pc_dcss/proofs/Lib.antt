@@ -3,3 +3,4 @@ pub mod Known
 pub mod Loads
 pub mod Takes
 pub mod Puts
+pub mod Meeting

@@ -2,9 +2,8 @@
 use Rattle.std.proofs.Common.{◌≡◌, ◌≢◌, ℕ, ◌+◌, ◌-◌, sym, subst, refl, arith}
 use Rattle.pc_rule_law.specs.Past.{Has}
 use Rattle.pc_rule_law.specs.Views.{View, placed, loaded, removed}
-use Rattle.pc_rule_law.specs.Plays.{IsLater, InstallLoaded}
+use Rattle.pc_rule_law.specs.Plays.{InstallLoaded}
 use Rattle.pc_dcss.specs.Installs.{HasMet, KnowsNumbers}
-use Rattle.pc_dcss.proofs.Staying.{later_then}
 
 -- the pass whose number is one above a seat
 pub of_seat : (q : ℕ) → (q + 1) - 1 ≡ q
@@ -13,9 +12,6 @@ of_seat q = omega arith
 module _ (q k op place old number : ℕ) (v0 v1 v2 v3 v4 : View) (met : HasMet v0 q k)
     (one : InstallLoaded v0 q 1 op v1) (two : InstallLoaded v1 q 2 place v2) (three : InstallLoaded v2 q 3 old v3)
     (four : InstallLoaded v3 q 0 number v4) where
-  pub loads_later : IsLater v0 v4
-  loads_later = later_then v0 v1 v4 one.later (later_then v1 v2 v4 two.later (later_then v2 v3 v4 three.later four.later))
-
   met1 : Has v1.notes (placed q k met.0 met.1)
   met1 = one.later.more (placed q k met.0 met.1) met.2
 

@@ -1,20 +1,21 @@
 -- What the placing of the own install tells.
 use Rattle.std.proofs.Common.{◌≡◌, ℕ, ◌<◌, ◌≢◌, List, [], ◌∷◌, ◌++◌, sym, ap, ◌∙◌, subst, refl, arith}
 use Rattle.pc_model.specs.declared.cell.Field.{Field}
+use Rattle.pc_model.specs.Linked.{opening_cells}
 use Rattle.pc_words.specs.declared.word.WordKind.{WordKind}
 use Rattle.pc_words.specs.declared.word.WordKind.TheVariants.{Plain, Install, Exchange}
 use Rattle.pc_words.specs.Words.{raw, kind, IsWord}
 use Rattle.pc_words.proofs.Words.{raw_kind}
 use Rattle.pc_rule_law.specs.Board.{Size, place_number}
 use Rattle.pc_rule_law.specs.Past.{Has, change}
-use Rattle.pc_rule_law.specs.Views.{Note, View, entry, placed, install_word, NoteInRange, AllNotes, with_notes}
-use Rattle.pc_rule_law.specs.Plays.{own_notes, after_place, found}
+use Rattle.pc_rule_law.specs.Views.{Note, View, entry, placed, install_word, held, NoteInRange, AllNotes, with_notes}
+use Rattle.pc_rule_law.specs.Plays.{own_notes, after_place, found, IsNotedSince}
 use Rattle.pc_rule_law.proofs.Lists.{has_right}
 use Rattle.pc_rule.specs.declared.opening.Place.{Place}
 use Rattle.pc_rule.specs.declared.refs.RefKind.{RefKind}
 use Rattle.pc_rule.specs.declared.refs.RefKind.TheVariants.{Install as AnInstall, Exchange as AnExchange}
 use Rattle.pc_rule.specs.declared.refs.Ref.{Ref}
-use Rattle.pc_dcss.specs.Installs.{KnowsPlace, KeepsNotes, IsReady, IsPlaced, word_of, met_note, IsOther, IsMet, IsDifferent, IfMet, IfDiffers}
+use Rattle.pc_dcss.specs.Installs.{KnowsPlace, KeepsNotes, IsReady, IsPlaced, word_of, met_note, IsOther, IsMet, IsDifferent, OnHeld, IfMet, IfDiffers}
 use Rattle.pc_dcss.specs.declared.installed.Installed.{Installed}
 use Rattle.pc_dcss.specs.declared.installed.Installed.TheVariants.{Held, Decided, Differs, Met, Numbers as OutOfNumbers}
 
@@ -91,6 +92,14 @@ module _ (v w : View) (op : Ref) (place : Place) (c : WordKind)
   noted : (x : WordKind) → c ≡ x → w.notes ≡ found place.node place.field x ++ v.notes
   noted x e = subst (λ y. w.notes ≡ found place.node place.field y ++ v.notes) e (ap (λ (u : View). u.notes) miss)
 
+  pub held_now : (i : Installed) → OnHeld i (c ≡ Exchange op.seat op.number) → OnHeld i (IsNotedSince v w (held op.seat op.number place.node place.field))
+  unfolding noted
+  held_now Held is = (held op.seat op.number place.node place.field ∷ [], noted (Exchange op.seat op.number) is, (0, refl))
+  held_now Decided is = tt
+  held_now (Differs x) is = tt
+  held_now (Met r) is = tt
+  held_now (OutOfNumbers n) is = tt
+
   pub met_now : (i : Installed) → IfMet i (λ r. c ≡ word_of r.kind r.seat r.number)
       → IfMet i (λ r. r.kind ≡ AnExchange → r.seat ≡ op.seat → r.number ≢ op.number) → ((q j : ℕ) → c ≡ Install q j → q ≢ v.seat)
       → IfMet i (λ r. IsMet v w op place r)
@@ -104,13 +113,14 @@ module _ (v w : View) (op : Ref) (place : Place) (c : WordKind)
   )
   met_now (OutOfNumbers n) is other own = tt
 
-  pub differs_now : (i : Installed) → c ≢ Plain place.old → IfDiffers i (λ x. c ≡ Plain x) → IfDiffers i (IsDifferent v w place)
+  pub differs_now : (i : Installed) → c ≢ Plain place.old → ((x : ℕ) → c ≡ Plain x → x ≡ opening_cells v.size.starts.version place.node place.field)
+      → IfDiffers i (λ x. c ≡ Plain x) → IfDiffers i (IsDifferent v w place)
   unfolding noted
-  differs_now Held ne is = tt
-  differs_now Decided ne is = tt
-  differs_now (Differs x) ne is = ((λ e. ne (is ∙ ap Plain e)), noted (Plain x) is)
-  differs_now (Met r) ne is = tt
-  differs_now (OutOfNumbers n) ne is = tt
+  differs_now Held ne opening is = tt
+  differs_now Decided ne opening is = tt
+  differs_now (Differs x) ne opening is = ((λ e. ne (is ∙ ap Plain e)), noted (Plain x) is, opening x is)
+  differs_now (Met r) ne opening is = tt
+  differs_now (OutOfNumbers n) ne opening is = tt
 
 -- a word other than that of a plain value isn't that plain value
 pub not_old : (r old x : ℕ) → IsWord r → old ≡ raw (Plain x) → r ≢ old → kind r ≢ Plain x

@@ -3,12 +3,13 @@ use Rattle.std.specs.Prelude.{◌≡◌, ◌≢◌, ℕ, ◌-◌, ◌^◌, ◌<�
 use Rattle.pc_model.specs.declared.cell.Field.{Field}
 use Rattle.pc_model.specs.declared.numbers.Numbers.{Numbers}
 use Rattle.pc_model.specs.Cells.{IsNode}
+use Rattle.pc_model.specs.Linked.{opening_cells}
 use Rattle.pc_words.specs.declared.word.WordKind.{WordKind}
 use Rattle.pc_words.specs.declared.word.WordKind.TheVariants.{Plain, Install, Exchange}
 use Rattle.pc_words.specs.Words.{raw}
 use Rattle.pc_rule_law.specs.Board.{Size, place_number}
 use Rattle.pc_rule_law.specs.Past.{Has, change}
-use Rattle.pc_rule_law.specs.Plays.{found}
+use Rattle.pc_rule_law.specs.Plays.{found, IsNotedSince}
 use Rattle.pc_rule_law.specs.Views.{Note, View, entry, placed, install_word, decided_below, held, IsInstall, IsAttempt}
 use Rattle.pc_model.specs.declared.cell.Counter.TheVariants.{Install as Installs}
 use Rattle.pc_rule.specs.declared.opening.Place.{Place}
@@ -25,6 +26,10 @@ HasMet v q k = (n : ℕ) × (f : Field) × Has v.notes (placed q k n f)
 -- attempt a of pass p is known to be decided
 abbrev pub IsDecided : View → ℕ → ℕ → Type 0
 IsDecided v p a = (m : ℕ) × Has v.notes (decided_below p m) × (a < m)
+
+-- and by a note that was made since
+abbrev pub IsDecidedSince : View → View → ℕ → ℕ → Type 0
+IsDecidedSince v w p a = (m : ℕ) × IsNotedSince v w (decided_below p m) × (a < m)
 
 -- install k of pass q is known to be for attempt a of pass p, in this word, in place of the value x
 pub record KnowsWords (z : Size) (v : View) (q k p a n : ℕ) (f : Field) (x : ℕ) : Type 0 where
@@ -68,9 +73,11 @@ abbrev pub IsMet : View → View → Ref → Place → Ref → Type 0
 IsMet v w op place r = (w.notes ≡ met_note r.kind r.seat r.number place.node place.field ∷ v.notes)
     × IsOther r.kind r.seat r.number w.seat op
 
--- the word had this plain value, which isn't the old one; and what is noted of a plain value was noted
+-- the word had this plain value, which isn't the old one: what is noted of a plain value was noted, and it is the value
+-- that the board opened with, since installs change none
 abbrev pub IsDifferent : View → View → Place → ℕ → Type 0
 IsDifferent v w place x = (x ≢ place.old) × (w.notes ≡ found place.node place.field (Plain x) ++ v.notes)
+    × (x ≡ opening_cells v.size.starts.version place.node place.field)
 
 -- the answer is that there is no number
 abbrev pub IsOutOfNumbers : Installed → Type 0

@@ -3,12 +3,12 @@ ghost use Rattle.std.specs.Prelude.{◌≡◌, ◌≢◌, ◌+◌, ◌<◌, ◌�
 ghost use Rattle.pc_words.specs.declared.word.WordKind.TheVariants.{Plain, Exchange as ExchangeWord};
 ghost use Rattle.pc_words.specs.Words.{raw, kind, IsWord};
 ghost use Rattle.pc_rule_law.specs.Board.{place_number};
-ghost use Rattle.pc_rule_law.specs.Past.{Has};
+ghost use Rattle.pc_rule_law.specs.Plays.{AddsNotes, IsNotedSince};
 ghost use Rattle.pc_rule_law.specs.Views.{held};
 ghost use Rattle.pc_rule_law.specs.Conditions.{IsFree};
 ghost use Rattle.pc_rule.specs.declared.refs.RefKind.TheVariants.{Exchange};
 ghost use Rattle.pc_rule.specs.Passes.{view, board_size, IsPassOf, IsSamePass};
-ghost use Rattle.pc_dcss.specs.Installs.{IsDecided, KnowsPlace, KeepsNotes, IsReady, IsPlaced, IsMet, IsDifferent, HasNoNumber, IsOutOfNumbers, described, word_of, last_install, OnHeld, OnDecided, IfDiffers, IfMet, IfNumbers};
+ghost use Rattle.pc_dcss.specs.Installs.{IsDecidedSince, KnowsPlace, KeepsNotes, IsReady, IsPlaced, IsMet, IsDifferent, HasNoNumber, IsOutOfNumbers, described, word_of, last_install, OnHeld, OnDecided, IfDiffers, IfMet, IfNumbers};
 
 use crate::descriptor::{Words, number_of};
 use crate::installed::Installed;
@@ -93,10 +93,11 @@ fn put_install<H: Shape>(
     requires ready { IsReady (view pass.old) own op place }
     ensures pass { IsSamePass pass.old pass.new }
     ensures keeps { KeepsNotes (view pass.old) (view pass.new) }
+    ensures adds { AddsNotes (view pass.old) (view pass.new) }
     ensures number { (view pass.new).install.number ≡ (view pass.old).install.number }
     ensures placed { IfOk result (λ r. IsPlaced (board_size board.now) (view pass.new) r op place) }
     ensures free { OnErr result (IsFree (view pass.new)) }
-    ensures held { IfErr result (λ i. OnHeld i (Has (view pass.new).notes (held op.seat op.number place.node place.field))) }
+    ensures held { IfErr result (λ i. OnHeld i (IsNotedSince (view pass.old) (view pass.new) (held op.seat op.number place.node place.field))) }
     ensures decided { IfErr result (λ i. OnDecided i ⊥) }
     ensures differs { IfErr result (λ i. IfDiffers i (IsDifferent (view pass.old) (view pass.new) place)) }
     ensures met { IfErr result (λ i. IfMet i (λ r. IsMet (view pass.old) (view pass.new) op place r)) }
@@ -127,11 +128,12 @@ pub fn place_install<H: Shape>(
     requires place { KnowsPlace (view pass.old) op place }
     ensures pass { IsSamePass pass.old pass.new }
     ensures keeps { KeepsNotes (view pass.old) (view pass.new) }
+    ensures adds { AddsNotes (view pass.old) (view pass.new) }
     ensures number { (view pass.old).install.number < last_install → (view pass.new).install.number ≡ (view pass.old).install.number + 1 }
     ensures placed { IfOk result (λ r. IsPlaced (board_size board.now) (view pass.new) r op place) }
     ensures free { OnErr result (IsFree (view pass.new)) }
-    ensures held { IfErr result (λ i. OnHeld i (Has (view pass.new).notes (held op.seat op.number place.node place.field))) }
-    ensures decided { IfErr result (λ i. OnDecided i (IsDecided (view pass.new) op.seat op.number)) }
+    ensures held { IfErr result (λ i. OnHeld i (IsNotedSince (view pass.old) (view pass.new) (held op.seat op.number place.node place.field))) }
+    ensures decided { IfErr result (λ i. OnDecided i (IsDecidedSince (view pass.old) (view pass.new) op.seat op.number)) }
     ensures differs { IfErr result (λ i. IfDiffers i (IsDifferent (view pass.old) (view pass.new) place)) }
     ensures met { IfErr result (λ i. IfMet i (λ r. IsMet (view pass.old) (view pass.new) op place r)) }
     ensures numbers { IfErr result (λ i. IfNumbers i (HasNoNumber (view pass.old) (view pass.new))) }
@@ -163,10 +165,11 @@ pub fn install<H: Shape>(board: &Board<H>, pass: &mut Pass<H>, op: Ref, place: P
     requires place { KnowsPlace (view pass.old) op place }
     ensures pass { IsSamePass pass.old pass.new }
     ensures keeps { KeepsNotes (view pass.old) (view pass.new) }
+    ensures adds { AddsNotes (view pass.old) (view pass.new) }
     ensures number { (view pass.old).install.number < last_install → (view pass.new).install.number ≡ (view pass.old).install.number + 1 }
     ensures free { IsFree (view pass.new) }
-    ensures held { OnHeld result (Has (view pass.new).notes (held op.seat op.number place.node place.field)) }
-    ensures decided { OnDecided result (IsDecided (view pass.new) op.seat op.number) }
+    ensures held { OnHeld result (IsNotedSince (view pass.old) (view pass.new) (held op.seat op.number place.node place.field)) }
+    ensures decided { OnDecided result (IsDecidedSince (view pass.old) (view pass.new) op.seat op.number) }
     ensures differs { IfDiffers result (IsDifferent (view pass.old) (view pass.new) place) }
     ensures met { IfMet result (λ r. IsMet (view pass.old) (view pass.new) op place r) }
     ensures numbers { IfNumbers result (HasNoNumber (view pass.old) (view pass.new)) }

@@ -5,9 +5,9 @@ ghost use Rattle.pc_words.specs.Words.{raw, IsWord};
 ghost use Rattle.pc_rule_law.specs.Past.{Has};
 ghost use Rattle.pc_rule_law.specs.Stages.{IsOpen, decided_by};
 ghost use Rattle.pc_rule_law.specs.Views.{early, removed, held};
-ghost use Rattle.pc_rule_law.specs.Plays.{IsLater};
+ghost use Rattle.pc_rule_law.specs.Plays.{IsLater, IsNotedSince};
 ghost use Rattle.pc_rule.specs.Passes.{view, board_size, IsPassOf, IsSamePass};
-ghost use Rattle.pc_dcss.specs.Installs.{IsDecided, KnowsWords, OnHeld, OnDecided, IsEnd};
+ghost use Rattle.pc_dcss.specs.Installs.{IsDecided, IsDecidedSince, KnowsWords, OnHeld, OnDecided, IsEnd};
 
 use crate::descriptor::Words;
 use crate::installed::Installed;
@@ -44,8 +44,8 @@ fn put_reference<H: Shape>(
     ensures later { IsLater (view pass.old) (view pass.new) }
     ensures removed { Has (view pass.new).notes (removed install.seat install.number) }
     ensures end { IsEnd result }
-    ensures held { OnHeld result (Has (view pass.new).notes (held words.op.seat words.op.number words.node words.field)) }
-    ensures decided { OnDecided result (IsDecided (view pass.new) words.op.seat words.op.number) }
+    ensures held { OnHeld result (IsNotedSince (view pass.old) (view pass.new) (held words.op.seat words.op.number words.node words.field)) }
+    ensures decided { OnDecided result (IsDecidedSince (view pass.old) (view pass.new) words.op.seat words.op.number) }
 {
     let own = install_ref(install.seat, install.number);
     let op = exchange_ref(words.op.seat, words.op.number);
@@ -86,8 +86,8 @@ pub(crate) fn take<H: Shape>(
     ensures later { IsLater (view pass.old) (view pass.new) }
     ensures removed { Has (view pass.new).notes (removed install.seat install.number) }
     ensures end { IsEnd result }
-    ensures held { OnHeld result (Has (view pass.new).notes (held words.op.seat words.op.number words.node words.field)) }
-    ensures decided { OnDecided result (IsDecided (view pass.new) words.op.seat words.op.number) }
+    ensures held { OnHeld result (IsNotedSince (view pass.old) (view pass.new) (held words.op.seat words.op.number words.node words.field)) }
+    ensures decided { OnDecided result (IsDecidedSince (view pass.old) (view pass.new) words.op.seat words.op.number) }
 {
     let status = unpack(step_7(board, pass, words.op.seat + 1));
     if is_undecided(status, words.op.number) {

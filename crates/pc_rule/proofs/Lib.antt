@@ -1,10 +1,12 @@
 pub mod BoardSizes
+pub mod Calls
 pub mod Ends
 pub mod Filling
 pub mod Giving
 pub mod Left
 pub mod Numbers
 pub mod Opened
+pub mod Posting
 pub mod Remaining
 pub mod Rooms
 pub mod Sharing

@@ -18,6 +18,7 @@ use Rattle.pc_rule_law.specs.Views.{Note, entry, placed, install_word, View, Not
 use Rattle.pc_rule_law.specs.Rule.{Standing, CellOk, Placed, Own, Shared, Holds}
 use Rattle.pc_rule_law.specs.Conditions.{CanPlace}
 use Rattle.pc_rule_law.specs.Plays.{Mine, found, own_notes, after_place, PlacedInstall, places_install}
+use Rattle.pc_rule_law.specs.Tables.{KeepsOpening}
 use Rattle.pc_rule_law.proofs.Lists.{all_more, all_none}
 use Rattle.pc_rule_law.proofs.Updates.{put2-here, put2-else, at_put2, put_cell-here}
 use Rattle.pc_rule_law.proofs.Frames.{only_cell}
@@ -25,7 +26,7 @@ use Rattle.pc_rule_law.proofs.Stages.{undecided_or_decided, open_is_unmade}
 use Rattle.pc_rule_law.proofs.WordKinds.{plain_not_exchange, plain_not_install, install_not_exchange}
 use Rattle.pc_rule_law.proofs.Keeping.{kept_after, noted_more}
 use Rattle.pc_rule_law.proofs.WordMoves.{with_cell, with_installs, WordMoves, IsKept, IsEnded, IsBegun, word_moved}
-use Rattle.pc_rule_law.proofs.Looks.{found_holds, told_kind}
+use Rattle.pc_rule_law.proofs.Looks.{found_holds, told_kind, plain_at_opening}
 use Rattle.pc_rule_law.proofs.Steps.{SameValues, same_values, swapped}
 
 -- an attempt that was published is undecided, or decided: as a number that is remembered
@@ -192,12 +193,12 @@ module _ (sound : ℕ → Cells → Type 0) (z : Size) (b : Board) (h : Past) (i
 
 module _ (sound : ℕ → Cells → Type 0) (z : Size) where
   -- the own install in place of the plain value x of a word of node n, for attempt a of pass p
-  pub place_install : (slots id : ℕ) (me : Mine) (n : ℕ) (f : Field) (x p a : ℕ) → CanPlace z me.0 n f x p a
+  pub place_install : KeepsOpening sound z → (slots id : ℕ) (me : Mine) (n : ℕ) (f : Field) (x p a : ℕ) → CanPlace z me.0 n f x p a
       → Inside z (at_cell n f)
       → let old : ℕ = raw (Plain x) in let new : ℕ = raw (Install me.0.seat me.0.install.number) in
       Allows (Holds sound z) slots id me (address z (at_cell n f)) (λ i. either (eqb i old) new i)
       (places_install (step slots (address z (at_cell n f)) old new none) me)
-  place_install slots id me n f x p a can in_p = let v = me.0 in let old : ℕ = raw (Plain x) in
+  place_install keeps slots id me n f x p a can in_p = let v = me.0 in let old : ℕ = raw (Plain x) in
       let new : ℕ = raw (Install v.seat v.install.number) in
       swapped sound z SameValues same_values slots id me (at_cell n f) old new (PlacedInstall v old) in_p can.sized
       (λ b h views kept at hit. let s = kept.shared in let mine = kept.each_view id v at in
@@ -235,6 +236,7 @@ module _ (sound : ℕ → Cells → Type 0) (z : Size) where
             other = λ q j found_it. absurd
                 (plain_not_install x q j (sym is
                 ∙ (sym (told_kind (b.cell n f) (s.ranges n f) (raw (b.cell n f)) refl) ∙ found_it)));
+            plain = plain_at_opening sound z keeps b h s v can.sized n f (raw (b.cell n f)) refl;
           },
         );
       })
@@ -252,6 +254,7 @@ module _ (sound : ℕ → Cells → Type 0) (z : Size) where
             miss = λ _. ap (λ (u : WordKind). with_notes v (found n f u)) (sym same);
             other = λ q j found_it own_seat. not_own sound z b h id v n f s own can.fresh q j (sym same ∙ found_it)
                 (own_seat ∙ own.seated.0);
+            plain = plain_at_opening sound z keeps b h s v can.sized n f (raw w) refl;
           },
         ),
       ))

@@ -19,7 +19,7 @@ use Rattle.pc_rule_law.specs.Stages.{IsUnmade, IsUndecided, DecidedBelow}
 use Rattle.pc_rule_law.specs.Views.{Note, install_word, early, removed, decided_below, View, IsClean, NoteHolds, IsInstall, IsAttempt, AllNotes, with_notes}
 use Rattle.pc_rule_law.specs.Rule.{Standing, Holding, CellOk, Placed, Own, Shared, Holds}
 use Rattle.pc_rule_law.specs.Conditions.{MayTake, CanTake}
-use Rattle.pc_rule_law.specs.Plays.{Mine, found, TookInstall, takes_install}
+use Rattle.pc_rule_law.specs.Plays.{IsNotedSince, Mine, found, TookInstall, takes_install}
 use Rattle.pc_rule_law.proofs.Lists.{all_more, all_both, has_first, has_later, has_left, has_right}
 use Rattle.pc_rule_law.proofs.Places.{one_word}
 use Rattle.pc_rule_law.proofs.Updates.{put2-here, put2-else, at_put2, put_cell-here}
@@ -250,9 +250,12 @@ module _ (sound : ℕ → Cells → Type 0) (z : Size) where
             later = later_more v more;
             gone = λ r j e small. gone_too v more q k r j (one_install q k r j q_small small e)
                 (has_first (removed q k) (found n f c));
-            hit = λ _ x has. has_left more v.notes x
-                (has_later (removed q k) (found n f c) x
-                (subst (λ (u : WordKind). Has (found n f u) x) (told_kind c wm.in_range new refl) has));
+            hit = λ _ x has. (
+              more,
+              refl,
+              has_later (removed q k) (found n f c) x
+                  (subst (λ (u : WordKind). Has (found n f u) x) (told_kind c wm.in_range new refl) has),
+            );
             miss = λ ne. absurd (ne hit);
             decided = λ ne. absurd (ne hit);
           },
@@ -287,10 +290,13 @@ module _ (sound : ℕ → Cells → Type 0) (z : Size) where
             gone = λ t j e low. gone_too v more q k t j (one_install q k t j q_small low e)
                 (has_first (removed q k) (found n f w ++ over));
             hit = λ e. absurd (miss e);
-            miss = λ _ x has. has_left more v.notes x
-                (has_later (removed q k) (found n f w ++ over) x
-                (has_left (found n f w) over x
-                (subst (λ (u : WordKind). Has (found n f u) x) (told_kind w small r refl) has)));
+            miss = λ _ x has. (
+              more,
+              refl,
+              has_later (removed q k) (found n f w ++ over) x
+                  (has_left (found n f w) over x
+                  (subst (λ (u : WordKind). Has (found n f u) x) (told_kind w small r refl) has)),
+            );
             decided = λ _ t j e i is low lt has ne. let same = one_install q k t j q_small low is in
                 let has' : Has v.notes (install_word q k 1 (raw (Exchange e i))) = subst
                 (λ (u : ℕ × ℕ). Has v.notes (install_word u.0 u.1 1 (raw (Exchange e i))))
@@ -299,13 +305,16 @@ module _ (sound : ℕ → Cells → Type 0) (z : Size) where
                 let second_word = (mine.noted (install_word q k 1 (raw (Exchange p a))) ko.3).0.1 in
                 let p_seat = kn.attempt.0 in
                 let one = one_exchange p a e i (omega arith) lt (sym second_word ∙ first_word) in
-                subst (λ (u : ℕ × ℕ). Has (more ++ v.notes) (decided_below u.0 (u.1 + 1))) (λ d. (one.0 d, one.1 d))
-                (has_left more v.notes (decided_below p (a + 1))
-                (has_later (removed q k) (found n f w ++ over) (decided_below p (a + 1))
-                (has_right (found n f w) over (decided_below p (a + 1))
-                (has_only_if (not (r == raw (Exchange p a))) (decided_below p (a + 1))
-                (ap not (ne_eqb r (raw (Exchange p a))
-                (λ d. ne (d ∙ ap₂ (λ (x y : ℕ). raw (Exchange x y)) one.0 one.1))))))));
+                subst (λ (u : ℕ × ℕ). IsNotedSince v (with_notes v more) (decided_below u.0 (u.1 + 1)))
+                (λ d. (one.0 d, one.1 d)) (
+                  more,
+                  refl,
+                  has_later (removed q k) (found n f w ++ over) (decided_below p (a + 1))
+                      (has_right (found n f w) over (decided_below p (a + 1))
+                      (has_only_if (not (r == raw (Exchange p a))) (decided_below p (a + 1))
+                      (ap not (ne_eqb r (raw (Exchange p a))
+                      (λ d. ne (d ∙ ap₂ (λ (x y : ℕ). raw (Exchange x y)) one.0 one.1)))))),
+                );
           },
         ),
       ))

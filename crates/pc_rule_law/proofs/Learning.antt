@@ -59,4 +59,4 @@ all_when P false xs here = all_none P
 
 -- a view with more notes is a later one
 pub later_more : (v : View) (more : List Note) → IsLater v (with_notes v more)
-later_more v more = record { same = refl; more = λ x h. has_right more v.notes x h }
+later_more v more = record { same = refl; adds = (more, refl); more = λ x h. has_right more v.notes x h }

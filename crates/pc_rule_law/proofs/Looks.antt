@@ -1,19 +1,21 @@
 -- A load changes nothing but what the pass knows. What is found in a word of a node, and the load of such a word.
-use Rattle.std.proofs.Common.{◌≡◌, ℕ, true, refl, sym, ap, ◌∙◌, arith}
+use Rattle.std.proofs.Common.{◌≡◌, ℕ, true, refl, sym, ap, ◌∙◌, subst, arith}
 use mathlib.Core.Option.{none}
 use Rattle.atomic_table.specs.Table.{step, Allows}
 use Rattle.pc_model.specs.declared.cell.Field.{Field}
 use Rattle.pc_model.specs.declared.cell.Field.TheVariants.{Version, Key, Value, Left, Right, Parent, Height, Spare}
 use Rattle.pc_model.specs.Cells.{Cells, IsNode}
+use Rattle.pc_model.specs.Linked.{opening_cells}
 use Rattle.pc_words.specs.declared.word.WordKind.{WordKind}
 use Rattle.pc_words.specs.declared.word.WordKind.TheVariants.{Plain, Install, Exchange}
 use Rattle.pc_words.specs.Words.{raw, kind, InRange}
 use Rattle.pc_words.proofs.Words.{kind_raw, raw_is_word}
 use Rattle.pc_rule_law.specs.Board.{Size, at_cell, address, Inside, Board}
 use Rattle.pc_rule_law.specs.Past.{Past}
-use Rattle.pc_rule_law.specs.Views.{version, placed, held, IsNoted, NoteInRange, NoteHolds, AllNotes, with_notes}
+use Rattle.pc_rule_law.specs.Views.{View, version, placed, held, IsNoted, NoteInRange, NoteHolds, AllNotes, with_notes}
 use Rattle.pc_rule_law.specs.Rule.{Standing, CellOk, Placed, Shared, Holds}
-use Rattle.pc_rule_law.specs.Plays.{Mine, found, LoadedCell, loads_cell}
+use Rattle.pc_rule_law.specs.Plays.{Mine, found, IsOpeningWord, LoadedCell, loads_cell}
+use Rattle.pc_rule_law.specs.Tables.{KeepsOpening}
 use Rattle.pc_rule_law.proofs.Lists.{all_none, all_one}
 use Rattle.pc_rule_law.proofs.Keeping.{noted_more}
 use Rattle.pc_rule_law.proofs.Steps.{SameValues, same_values, looked}
@@ -75,12 +77,19 @@ pub told_kind : (w : WordKind) → InRange w → (r : ℕ) → r ≡ raw w → k
 told_kind w small r is = ap kind is ∙ kind_raw w small
 
 module _ (sound : ℕ → Cells → Type 0) (z : Size) where
+  -- a plain word has the value that the board opened with, where sound cells are those of the opening
+  pub plain_at_opening : KeepsOpening sound z → (b : Board) (h : Past) → Shared sound z b h → (v : View) → v.size ≡ z → (n : ℕ) (f : Field) (r : ℕ)
+      → r ≡ raw (b.cell n f) → IsOpeningWord v n f r
+  plain_at_opening keeps b h s v sized n f r at x e = let is : b.cell n f ≡ Plain x = sym (told_kind (b.cell n f) (s.ranges n f) r at) ∙ e in
+      subst (CellOk z.seats b.status h.attempt h.placing h.course (h.plain n f) n f) is (s.each_cell n f)
+      ∙ (s.tied n f ∙ (keeps h.cells s.sound_now n f ∙ ap (λ (y : Size). opening_cells y.starts.version n f) (sym sized)))
+
   -- a load of a word of a node
-  pub load_cell : (slots id : ℕ) (me : Mine) (n : ℕ) (f : Field) → me.0.size ≡ z → me.0.live ≡ true
+  pub load_cell : KeepsOpening sound z → (slots id : ℕ) (me : Mine) (n : ℕ) (f : Field) → me.0.size ≡ z → me.0.live ≡ true
       → Inside z (at_cell n f)
       → Allows (Holds sound z) slots id me (address z (at_cell n f)) (λ r. r)
       (loads_cell (step slots (address z (at_cell n f)) 0 0 none) me)
-  load_cell slots id me n f sized live in_p = looked sound z SameValues same_values slots id me (at_cell n f)
+  load_cell keeps slots id me n f sized live in_p = looked sound z SameValues same_values slots id me (at_cell n f)
       (LoadedCell me.0) in_p sized
       (λ b h views k at. let v = me.0 in let w = b.cell n f in let s = k.shared in let small = s.ranges n f in
       let same : kind (raw w) ≡ w = kind_raw w small in (
@@ -89,6 +98,6 @@ module _ (sound : ℕ → Cells → Type 0) (z : Size) where
             (found_holds sound z b h s n f w refl in_p small (s.each_cell n f)),
         (
           (refl, refl, refl, refl, refl),
-          (raw_is_word w small, ap (λ (u : WordKind). with_notes v (found n f u)) (sym same)),
+          (raw_is_word w small, ap (λ (u : WordKind). with_notes v (found n f u)) (sym same), plain_at_opening keeps b h s v sized n f (raw w) refl),
         ),
       ))

@@ -100,7 +100,7 @@ module _ (sound : ℕ → Cells → Type 0) (z : Size) (b : Board) (h : Past) (f
       let first = decided_below p (decided_by (b.status p)) in
       let more' = when (is_open (b.status p).stage) (learnt (learn_status p m) v.notes) in record {
         later = later_more v more;
-        decided = has_left more v.notes first (subst (λ (l : List Note). Has l first) (sym is) (has_first first more'));
+        decided = (more, refl, subst (λ (l : List Note). Has l first) (sym is) (has_first first more'));
         undecided = λ o q k has. has_left more v.notes (early q k)
             (subst (λ (l : List Note). Has l (early q k)) (sym is) (has_later first more' (early q k)
             (has_when (is_open (b.status p).stage) (learnt (learn_status p m) v.notes) (early q k)

@@ -1,9 +1,10 @@
 -- What each kind of step of an install tells the pass that makes it.
-use Rattle.std.specs.Prelude.{◌≡◌, ◌≢◌, ℕ, zero, suc, ◌+◌, ◌<◌, ◌≤◌, Bool, true, false, List, [], ◌∷◌}
+use Rattle.std.specs.Prelude.{◌≡◌, ◌≢◌, ℕ, zero, suc, ◌+◌, ◌<◌, ◌≤◌, Bool, true, false, List, [], ◌∷◌, ◌++◌}
 use Rattle.atomic_table.specs.Table.{Me, Step}
 use Rattle.pc_model.specs.declared.cell.Field.{Field}
 use Rattle.pc_model.specs.declared.cell.Field.TheVariants.{Version, Key, Value, Left, Right, Parent, Height, Spare}
 use Rattle.pc_model.specs.Exchanges.{Changed as Change}
+use Rattle.pc_model.specs.Linked.{opening_cells}
 use Rattle.pc_words.specs.declared.word.WordKind.{WordKind}
 use Rattle.pc_words.specs.declared.word.WordKind.TheVariants.{Plain, Install, Exchange}
 use Rattle.pc_words.specs.declared.status.Status.{Status}
@@ -17,9 +18,18 @@ use Rattle.pc_rule_law.specs.Views.{Note, version, entry, placed, loaded, instal
 abbrev pub Mine : Type 0
 Mine = Me Bool View
 
+-- what the pass has noted since stands in front of what it had noted before
+abbrev pub AddsNotes : View → View → Type 0
+AddsNotes v w = (new : List Note) × (w.notes ≡ new ++ v.notes)
+
+-- the note was made since
+abbrev pub IsNotedSince : View → View → Note → Type 0
+IsNotedSince v w x = (new : List Note) × (w.notes ≡ new ++ v.notes) × Has new x
+
 -- the pass has learnt, and is otherwise as it was
 pub record IsLater (v w : View) : Type 0 where
   pub same : w ≡ record v { notes = w.notes }
+  pub adds : AddsNotes v w
   pub more : (x : Note) → Has v.notes x → Has w.notes x
 
 -- the numbers in its notes are those of the board
@@ -91,10 +101,14 @@ LoadedInstall v r w _ = Unit {0}
 abbrev pub loads_install : Step Bool → Mine → ℕ → Mine → Type 0
 loads_install st m r m' = Tells m st.word (LoadedInstall m.0 r) m'
 
+-- a plain word has the value that the board opened with: so it is as long as passes make installs alone
+abbrev pub IsOpeningWord : View → ℕ → Field → ℕ → Type 0
+IsOpeningWord v n f r = (x : ℕ) → kind r ≡ Plain x → x ≡ opening_cells v.size.starts.version n f
+
 -- ---- a load of a word of a node
 
 abbrev pub LoadedCell : View → ℕ → View → Place → Type 0
-LoadedCell v r w (at_cell n f) = IsWord r × (w ≡ with_notes v (found n f (kind r)))
+LoadedCell v r w (at_cell n f) = IsWord r × (w ≡ with_notes v (found n f (kind r))) × IsOpeningWord v n f r
 LoadedCell v r w _ = Unit {0}
 
 abbrev pub loads_cell : Step Bool → Mine → ℕ → Mine → Type 0
@@ -117,6 +131,7 @@ pub record InstallPlaced (v : View) (n : ℕ) (f : Field) (old r : ℕ) (w : Vie
   pub miss : r ≢ old → w ≡ with_notes v (found n f (kind r))
   -- an install that stands there isn't the pass's own
   pub other : (q k : ℕ) → kind r ≡ Install q k → q ≢ v.seat
+  pub plain : IsOpeningWord v n f r
 
 abbrev pub PlacedInstall : View → ℕ → ℕ → View → Place → Type 0
 PlacedInstall v old r w (at_cell n f) = InstallPlaced v n f old r w
@@ -130,7 +145,7 @@ places_install st m r m' = Tells m st.word (PlacedInstall m.0 st.first r) m'
 
 pub record StatusLoaded (v : View) (p : ℕ) (s : Status) (w : View) : Type 0 where
   pub later : IsLater v w
-  pub decided : Has w.notes (decided_below p (decided_by s))
+  pub decided : IsNotedSince v w (decided_below p (decided_by s))
   pub undecided : IsOpen s.stage → (q k : ℕ) → Has v.notes (install_word q k 1 (raw (Exchange p s.number)))
       → Has w.notes (early q k)
   pub installs_below : (q k a : ℕ) → Has v.notes (install_word q k 1 (raw (Exchange p a))) → a ≤ s.number
@@ -151,11 +166,11 @@ pub record InstallTaken (v : View) (n : ℕ) (f : Field) (old new r : ℕ) (w : 
   pub word : IsWord r
   pub later : IsLater v w
   pub gone : (q k : ℕ) → old ≡ raw (Install q k) → q < 256 → Has w.notes (removed q k)
-  pub hit : r ≡ old → (x : Note) → Has (found n f (kind new)) x → Has w.notes x
-  pub miss : r ≢ old → (x : Note) → Has (found n f (kind r)) x → Has w.notes x
+  pub hit : r ≡ old → (x : Note) → Has (found n f (kind new)) x → IsNotedSince v w x
+  pub miss : r ≢ old → (x : Note) → Has (found n f (kind r)) x → IsNotedSince v w x
   pub decided : r ≢ old → (q k p a : ℕ) → old ≡ raw (Install q k) → q < 256 → p < 256
       → Has v.notes (install_word q k 1 (raw (Exchange p a))) → r ≢ raw (Exchange p a)
-      → Has w.notes (decided_below p (a + 1))
+      → IsNotedSince v w (decided_below p (a + 1))
 
 abbrev pub TookInstall : View → ℕ → ℕ → ℕ → View → Place → Type 0
 TookInstall v old new r w (at_cell n f) = InstallTaken v n f old new r w

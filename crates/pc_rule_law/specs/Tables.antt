@@ -22,5 +22,9 @@ note_of g = entry g.seat 1 (change g.node g.field g.old g.new)
 abbrev pub first_view : Opening → View
 first_view o = new_view (size_of o) 0 (map note_of o.given.items)
 
+-- cells that are sound are those of the opening
+abbrev pub KeepsOpening : (ℕ → Cells → Type 0) → Size → Type 0
+KeepsOpening sound z = (c : Cells) → sound z.slots c → (n : ℕ) (f : Field) → c n f ≡ opening_cells z.starts.version n f
+
 abbrev pub sound_cells : Form → Opening → ℕ → Cells → Type 0
 sound_cells form o slots c = IsSound form slots c × ((n : ℕ) (f : Field) → c n f ≡ opening_cells o.starts.version n f)

@@ -4,7 +4,8 @@ use Rattle.pc_rule_law.specs.Views.{View, NoteInRange, AllNotes}
 use Rattle.pc_rule.specs.Passes.{view, board_size}
 use Rattle.pc_rule.proofs.BoardSizes.{few_seats, few_slots}
 use Rattle.pc_dcss.specs.Installs.{KnowsWords}
-use Rattle.pc_dcss.proofs.Staying.{pass_stays, notes_ranged}
+use Rattle.pc_rule.proofs.Calls.{pass_stays}
+use Rattle.pc_dcss.proofs.Staying.{notes_ranged, later_then}
 use Rattle.pc_dcss.proofs.Known.{Refers, refers, place_small, knows_words}
 use Rattle.pc_dcss.proofs.completing.complete.Goals as goal
 
@@ -32,3 +33,6 @@ take-requires-clause-known g c κs within = let b = c.args.board.now in let p = 
     knows_words z v (few_seats b) ranged c.args.r.seat c.args.r.number w.op.seat w.op.number w.node w.field c.in-Some.words.op c.in-Some.words.place c.in-Some.words.old
     c.in-Some.ensures.known c.words_of-words.ensures.op c.words_of-words.ensures.place in
     rw c.words_of-words.ensures.old known
+
+pub returns-in-Some-clause-later : goal.returns-in-Some-clause-later
+returns-in-Some-clause-later g c = later_then (view c.args.pass.now) (view c.load_words.new.pass) (view c.take.new.pass) c.load_words.ensures.later c.take.ensures.later

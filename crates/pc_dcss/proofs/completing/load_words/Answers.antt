@@ -3,7 +3,7 @@ use Rattle.std.proofs.Common.{◌≡◌, ◌+◌, ◌-◌, subst, arith}
 use Rattle.pc_rule_law.specs.Plays.{InstallLoaded}
 use Rattle.pc_rule.specs.Passes.{view, board_size}
 use Rattle.pc_rule.proofs.BoardSizes.{few_seats}
-use Rattle.pc_dcss.proofs.Staying.{notes_ranged}
+use Rattle.pc_dcss.proofs.Staying.{notes_ranged, later_then}
 use Rattle.pc_dcss.proofs.Known.{met_seat}
 use Rattle.pc_dcss.proofs.Loads.{of_seat, loads_known, loads_gone}
 use Rattle.pc_dcss.proofs.completing.load_words.Goals as goal
@@ -47,3 +47,11 @@ returns-clause-known g c = let q = c.args.r.seat in let e : (q + 1) - 1 ≡ q = 
     (subst (λ x. InstallLoaded (view c.step_4-place.new.pass) x 3 c.step_4-old.result (view c.step_4-old.new.pass)) e c.step_4-old.ensures.told)
     (subst (λ x. InstallLoaded (view c.step_4-old.new.pass) x 0 c.step_4-number.result (view c.step_4-number.new.pass)) e c.step_4-number.ensures.told)
     c.if-number-r.false
+
+pub returns-then-number-r-clause-later : goal.returns-then-number-r-clause-later
+returns-then-number-r-clause-later g c = let v1 = view c.step_4-op.new.pass in let v2 = view c.step_4-place.new.pass in let v3 = view c.step_4-old.new.pass in let v4 = view c.step_4-number.new.pass in
+    later_then (view c.args.pass.now) v1 v4 c.step_4-op.ensures.told.later (later_then v1 v2 v4 c.step_4-place.ensures.told.later (later_then v2 v3 v4 c.step_4-old.ensures.told.later c.step_4-number.ensures.told.later))
+
+pub returns-clause-later : goal.returns-clause-later
+returns-clause-later g c = let v1 = view c.step_4-op.new.pass in let v2 = view c.step_4-place.new.pass in let v3 = view c.step_4-old.new.pass in let v4 = view c.step_4-number.new.pass in
+    later_then (view c.args.pass.now) v1 v4 c.step_4-op.ensures.told.later (later_then v1 v2 v4 c.step_4-place.ensures.told.later (later_then v2 v3 v4 c.step_4-old.ensures.told.later c.step_4-number.ensures.told.later))

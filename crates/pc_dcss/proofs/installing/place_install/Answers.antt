@@ -1,9 +1,10 @@
 -- What is known of the exchange bounds its numbers, and a descriptor's words are no notes.
 use Rattle.std.proofs.Common.{sym, subst, arith}
 use Rattle.pc_rule_law.specs.Past.{Has}
-use Rattle.pc_rule_law.specs.Views.{View}
+use Rattle.pc_rule_law.specs.Views.{View, held}
+use Rattle.pc_rule_law.specs.Plays.{AddsNotes, IsNotedSince}
 use Rattle.std.specs.Prelude.{IfErr}
-use Rattle.pc_dcss.specs.Installs.{IsMet, IsDifferent, IfMet, IfDiffers}
+use Rattle.pc_dcss.specs.Installs.{IsMet, IsDifferent, OnHeld, IfMet, IfDiffers}
 use Rattle.pc_rule.specs.Passes.{view, board_size}
 use Rattle.pc_rule.proofs.BoardSizes.{few_seats}
 use Rattle.pc_dcss.proofs.Staying.{notes_ranged}
@@ -25,3 +26,10 @@ returns-clause-met g c = subst (λ (u : View). IfErr c.put_install.result (λ i.
 pub returns-clause-differs : goal.returns-clause-differs
 returns-clause-differs g c = subst (λ (u : View). IfErr c.put_install.result (λ i. IfDiffers i (IsDifferent u (view c.put_install.new.pass) c.args.place)))
     c.describe.ensures.told c.put_install.ensures.differs
+
+pub returns-clause-adds : goal.returns-clause-adds
+returns-clause-adds g c = subst (λ (u : View). AddsNotes u (view c.put_install.new.pass)) c.describe.ensures.told c.put_install.ensures.adds
+
+pub returns-clause-held : goal.returns-clause-held
+returns-clause-held g c = subst (λ (u : View). IfErr c.put_install.result (λ i. OnHeld i (IsNotedSince u (view c.put_install.new.pass) (held c.args.op.seat c.args.op.number c.args.place.node c.args.place.field))))
+    c.describe.ensures.told c.put_install.ensures.held

@@ -5,7 +5,7 @@ use Rattle.pc_words.specs.Words.{kind}
 use Rattle.pc_rule_law.specs.Plays.{own_notes, found}
 use Rattle.pc_rule.specs.Passes.{view, board_size}
 use Rattle.pc_dcss.proofs.Staying.{notes_ranged}
-use Rattle.pc_dcss.proofs.Puts.{install_again, keeps_with_more, place_ranged, placed_by_hit, met_now, differs_now, not_old}
+use Rattle.pc_dcss.proofs.Puts.{install_again, keeps_with_more, place_ranged, placed_by_hit, held_now, met_now, differs_now, not_old}
 use Rattle.pc_dcss.proofs.installing.put_install.Goals as goal
 
 pub plain-old-requires : goal.plain-old-requires
@@ -57,4 +57,15 @@ returns-clause-met g c = met_now (view c.args.pass.now) (view c.step_6-found.new
 pub returns-clause-differs : goal.returns-clause-differs
 returns-clause-differs g c = differs_now (view c.args.pass.now) (view c.step_6-found.new.pass) c.args.op c.args.place (kind c.step_6-found.result)
     (c.step_6-found.ensures.told.miss c.if-found-old.false) c.refusal.result
-    (not_old c.step_6-found.result c.plain-old.result c.args.place.old c.step_6-found.ensures.told.word c.plain-old.ensures.raw c.if-found-old.false) c.refusal.ensures.differs
+    (not_old c.step_6-found.result c.plain-old.result c.args.place.old c.step_6-found.ensures.told.word c.plain-old.ensures.raw c.if-found-old.false) c.step_6-found.ensures.told.plain c.refusal.ensures.differs
+
+pub returns-then-found-old-clause-adds : goal.returns-then-found-old-clause-adds
+returns-then-found-old-clause-adds g c = let v : View = view c.args.pass.now in
+    (own_notes v c.args.place.node c.args.place.field, ap (λ (u : View). u.notes) (c.step_6-found.ensures.told.hit c.if-found-old.true))
+
+pub returns-clause-adds : goal.returns-clause-adds
+returns-clause-adds g c = (found c.args.place.node c.args.place.field (kind c.step_6-found.result), ap (λ (u : View). u.notes) (c.step_6-found.ensures.told.miss c.if-found-old.false))
+
+pub returns-clause-held : goal.returns-clause-held
+returns-clause-held g c = held_now (view c.args.pass.now) (view c.step_6-found.new.pass) c.args.op c.args.place (kind c.step_6-found.result)
+    (c.step_6-found.ensures.told.miss c.if-found-old.false) c.refusal.result c.refusal.ensures.held

@@ -13,7 +13,7 @@ pub load-requires : goal.load-requires
 load-requires g c = let key = c.args.board.now.table.shared.key in let z : Size = size_of key in let p : Place = at_cell c.args.node c.args.field in (
   c.requires.pass.0,
   rw (c.cell_word-word.ensures, c.args.board.now.wide.0) (within z p c.requires.inside),
-  rw c.cell_word-word.ensures (load_cell (sound_cells g.H.Shape.form key) z _ _ c.args.pass.now.seat.me c.args.node c.args.field c.requires.pass.1 c.args.pass.now.live c.requires.inside),
+  rw c.cell_word-word.ensures (load_cell (sound_cells g.H.Shape.form key) z (λ cells sound n f. sound.1 n f) _ _ c.args.pass.now.seat.me c.args.node c.args.field c.requires.pass.1 c.args.pass.now.live c.requires.inside),
 )
 
 pub invariant_of-pass : goal.invariant_of-pass

@@ -15,7 +15,7 @@ pub compare_exchange-requires : goal.compare_exchange-requires
 compare_exchange-requires g c = let key = c.args.board.now.table.shared.key in let z : Size = size_of key in let p : Place = at_cell c.args.node c.args.field in let m = c.requires.may in (
   c.requires.pass.0,
   rw (c.cell_word-word.ensures, c.args.board.now.wide.0) (within z p c.requires.inside),
-  rw (c.cell_word-word.ensures, m.3, m.4) (place_install (sound_cells g.H.Shape.form key) z _ _ c.args.pass.now.seat.me c.args.node c.args.field m.0 m.1 m.2 m.5 c.requires.inside),
+  rw (c.cell_word-word.ensures, m.3, m.4) (place_install (sound_cells g.H.Shape.form key) z (λ cells sound n f. sound.1 n f) _ _ c.args.pass.now.seat.me c.args.node c.args.field m.0 m.1 m.2 m.5 c.requires.inside),
 )
 
 pub invariant_of-pass : goal.invariant_of-pass
