@@ -177,7 +177,7 @@ fn installs_answer_as_worked_out(rt: HostRuntime) -> Result<(), Memory> {
         installed_by(&board, &mut passes, 2, rows[2]),
         installed_by(&board, &mut passes, 3, rows[3]),
     ];
-    close_board(board, passes);
+    let closed = close_board(board, passes);
     let wanted = [
         Installed::Held,
         Installed::Held,
@@ -185,7 +185,7 @@ fn installs_answer_as_worked_out(rt: HostRuntime) -> Result<(), Memory> {
         Installed::Differs(0),
         Installed::Decided,
     ];
-    assert_eq!(rt; answers, wanted);
+    assert_eq!(rt; (answers, closed.history().len()), (wanted, 0));
     Ok(())
 }
 
@@ -241,13 +241,13 @@ fn a_half_install_is_met_and_completed(rt: HostRuntime) -> Result<(), Memory> {
     ];
     let (board, mut passes) = opened(rt.alloc(), &[share, share, share, share], &rows)?;
     let answers = half_met_by(&board, passes.as_mut_slice(), rows[0], rows[1]);
-    close_board(board, passes);
+    let closed = close_board(board, passes);
     let own = Ref {
         kind: RefKind::Install,
         seat: 0,
         number: 1,
     };
     let wanted = (own, Installed::Met(own), Installed::Met(exchange(0)));
-    assert_eq!(rt; answers, Some(wanted));
+    assert_eq!(rt; (answers, closed.history().len()), (Some(wanted), 0));
     Ok(())
 }
