@@ -1,5 +1,5 @@
 -- The passes of a board that opens are all of it, and each has what was given in its notes.
-use Rattle.std.proofs.Common.{◌≡◌, ◌≢◌, ℕ, ◌+◌, ◌<◌, true, List, [], length, map, refl, sym, ap, ◌∙◌, subst, inl, arith}
+use Rattle.std.proofs.Common.{◌≡◌, ℕ, ◌+◌, ◌<◌, true, List, [], length, map, sym, ap, ◌∙◌, subst, inl, arith}
 use mathlib.Core.Option.{some}
 use mathlib.Core.Logic.{dite}
 use native.Mathlib.Decide.{ℕ_discrete}
@@ -7,7 +7,6 @@ use lib.ListN.{get_elem?}
 use Rattle.pc_model.specs.declared.shape.Shape.{Ghosts}
 use Rattle.pc_rule_law.specs.declared.opening.Opening.{Opening}
 use Rattle.pc_rule_law.specs.Board.{Size}
-use Rattle.pc_rule_law.specs.Conditions.{IsFree}
 use Rattle.pc_rule_law.specs.Seats.{maker}
 use Rattle.pc_rule_law.specs.Tables.{size_of, note_of}
 use Rattle.pc_rule_law.specs.Views.{Note, View}

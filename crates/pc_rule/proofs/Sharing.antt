@@ -2,16 +2,15 @@
 use Rattle.std.proofs.Common.{◌≡◌, ℕ, zero, suc, ◌+◌, ◌≤◌, ◌<◌, ◌^◌, ◌==◌, Bool, true, false, if◌then◌else◌, List, [], ◌∷◌, length, map, drop, refl, sym, ap, ◌∙◌, subst, arith}
 use mathlib.Core.Option.{some, some-injective, some-ne-none}
 use lib.ListN.{get_elem?}
-use Rattle.atomic_table.proofs.Lists.{at_map, drop_at}
+use Rattle.atomic_table.proofs.Lists.{drop_at}
 use Rattle.pc_model.specs.declared.cell.Field.{Field}
 use Rattle.pc_model.specs.declared.cell.Field.TheVariants.{Version, Key, Value, Left, Right, Parent, Height, Spare}
 use Rattle.pc_model.specs.Exchanges.{Changed}
 use Rattle.pc_model.specs.Linked.{opening_cells}
 use Rattle.pc_words.specs.declared.word.WordKind.TheVariants.{Plain}
 use Rattle.pc_words.specs.Words.{InRange}
-use Rattle.pc_rule_law.specs.Past.{Has, IsFormed}
+use Rattle.pc_rule_law.specs.Past.{IsFormed}
 use Rattle.pc_rule_law.specs.Openings.{attempt_of, opening_changes}
-use Rattle.pc_rule_law.proofs.Lists.{below_length, element_at}
 use Rattle.pc_rule.specs.declared.share.Share.{Share}
 use Rattle.pc_rule.specs.declared.opening.Place.{Place}
 use Rattle.pc_rule.specs.declared.opening.Posted.{Posted}

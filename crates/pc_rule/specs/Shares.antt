@@ -6,7 +6,6 @@ use Rattle.pc_model.specs.declared.shape.Shape.{Ghosts}
 use Rattle.pc_model.specs.Cells.{IsEven}
 use Rattle.pc_rule_law.specs.declared.opening.Starts.{Starts}
 use Rattle.pc_rule_law.specs.Board.{Size}
-use Rattle.pc_rule_law.specs.Openings.{opening_notes}
 use Rattle.pc_rule_law.specs.Views.{Note}
 use Rattle.pc_rule.specs.declared.board.Board.{Board}
 use Rattle.pc_rule.specs.declared.board.Pass.{Pass}

@@ -1,10 +1,7 @@
-use Rattle.std.proofs.Common.{◌≡◌, ◌≤◌, ℕ, ◌^◌, ◌+◌, ◌<◌, length, refl, ap, arith}
-use Rattle.pc_model.specs.declared.cell.Field.{Field}
-use Rattle.pc_model.specs.Linked.{opening_cells}
+use Rattle.std.proofs.Common.{◌≡◌, length, refl, ap, arith}
 use Rattle.pc_rule.specs.Starting.{posted_of, all_posted}
 use Rattle.pc_rule.proofs.Opened.{all_opened, all_noted, all_shared}
 use Rattle.pc_rule.proofs.Sharing.{length_map, all_formed, small_cells}
-use Rattle.pc_rule_law.specs.declared.opening.Opening.{Opening}
 use Rattle.pc_rule.proofs.boards.opened.Goals as goal
 
 pub open-requires-clause-may : goal.open-requires-clause-may

@@ -1,7 +1,6 @@
 use Rattle.std.proofs.Common.{rules, ◌≡◌, ℕ, ◌+◌, ◌<◌, ◌≤◌, [], length, vec_capacity, sym, ap, ◌∙◌, subst, arith}
 use Rattle.pc_rule_law.specs.Seats.{maker, made_by}
 use Rattle.pc_rule_law.proofs.Lists.{each_snoc, below_length}
-use Rattle.pc_model.specs.declared.call.Entry.{Entry}
 use Rattle.pc_rule.specs.Opened.{last_view, IsLastMade}
 use Rattle.pc_rule.specs.Passes.{view, recorded, IsPassOf}
 use Rattle.pc_rule.specs.Recorded.{calls_of}

@@ -1,8 +1,7 @@
-use Rattle.std.proofs.Common.{rules, ◌≡◌, ℕ, suc, ◌++◌, ◌+◌, ◌≤◌, List, length, take, vec_capacity, refl, sym, ap, ◌∙◌, subst, arith}
+use Rattle.std.proofs.Common.{rules, ◌≡◌, ℕ, suc, ◌++◌, ◌+◌, ◌≤◌, length, vec_capacity, sym, ap, ◌∙◌, subst, arith}
 use Rattle.std.proofs.lemmas.List.Sorted.{IsPermutation-refl}
 use mathlib.Core.Option.{some}
 use lib.ListN.{get_elem?}
-use Rattle.pc_model.specs.declared.call.Entry.{Entry}
 use Rattle.pc_rule_law.specs.Conditions.{IsFree}
 use Rattle.pc_rule_law.specs.Seats.{joined_by}
 use Rattle.pc_rule_law.specs.Views.{View}
