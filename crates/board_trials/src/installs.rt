@@ -185,7 +185,9 @@ fn installs_answer_as_worked_out(rt: HostRuntime) -> Result<(), Memory> {
         Installed::Differs(0),
         Installed::Decided,
     ];
-    assert_eq!(rt; (answers, closed.history().len()), (wanted, 0));
+    assert_eq!(rt; answers, wanted);
+    let left = (closed.cell(1, Field::Value), closed.cell(1, Field::Spare));
+    assert_eq!(rt; left, (0, 0));
     Ok(())
 }
 
@@ -248,6 +250,6 @@ fn a_half_install_is_met_and_completed(rt: HostRuntime) -> Result<(), Memory> {
         number: 1,
     };
     let wanted = (own, Installed::Met(own), Installed::Met(exchange(0)));
-    assert_eq!(rt; (answers, closed.history().len()), (Some(wanted), 0));
+    assert_eq!(rt; (answers, closed.cell(1, Field::Value)), (Some(wanted), 0));
     Ok(())
 }

@@ -84,6 +84,7 @@ fn threads_install_in_the_same_words(rt: HostRuntime) -> Result<(), Memory> {
     let (board, mut passes) = opened(rt.alloc(), &[share, share], &rows)?;
     let strange = installed_in_threads(&rt, &board, passes.as_mut_slice(), rows[0], rows[1]);
     let closed = close_board(board, passes);
-    assert_eq!(rt; (strange, closed.history().len()), (0, 0));
+    let left = (closed.cell(1, Field::Value), closed.cell(1, Field::Height));
+    assert_eq!(rt; (strange, left), (0, (0, 0)));
     Ok(())
 }
