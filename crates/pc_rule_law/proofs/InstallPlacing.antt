@@ -24,6 +24,7 @@ use Rattle.pc_rule_law.proofs.Updates.{put2-here, put2-else, at_put2, put_cell-h
 use Rattle.pc_rule_law.proofs.Frames.{only_cell}
 use Rattle.pc_rule_law.proofs.Stages.{undecided_or_decided, open_is_unmade}
 use Rattle.pc_rule_law.proofs.WordKinds.{plain_not_exchange, plain_not_install, install_not_exchange}
+use Rattle.pc_rule_law.proofs.Descriptors.{known_entry}
 use Rattle.pc_rule_law.proofs.Keeping.{kept_after, noted_more}
 use Rattle.pc_rule_law.proofs.WordMoves.{with_cell, with_installs, WordMoves, IsKept, IsEnded, IsBegun, word_moved}
 use Rattle.pc_rule_law.proofs.Looks.{found_holds, told_kind, plain_at_opening}
@@ -204,10 +205,9 @@ module _ (sound : ℕ → Cells → Type 0) (z : Size) where
       (λ b h views kept at hit. let s = kept.shared in let mine = kept.each_view id v at in
       let own = mine.own can.live in
       let is : b.cell n f ≡ Plain x = raw_injective (b.cell n f) (Plain x) (s.ranges n f) can.small.1 hit in
-      let entry_known = can.listed in let true_entry =
-      (mine.noted (entry p a (change n f x entry_known.0)) entry_known.1).0 in
-      let el = early_or_late b.status p a true_entry.0 in let e = el.0 in
-      let begun = begun_placed sound z b h id v n f x p a kept.few s own can in_p is e true_entry.0 entry_known.0 true_entry.1 el.1 el.2 in
+      let known = known_entry sound z b h s id v own mine.noted (mine.tries can.live) p a n f x can.listed in
+      let el = early_or_late b.status p a known.1 in let e = el.0 in
+      let begun = begun_placed sound z b h id v n f x p a kept.few s own can in_p is e known.1 known.0 known.2 el.1 el.2 in
       let c' : WordKind = Install id v.install.number in
       let pl = placing' sound z b h id v n f x p a e in
       let co = course' sound z b h id v n f x p a in
@@ -225,7 +225,7 @@ module _ (sound : ℕ → Cells → Type 0) (z : Size) where
             (word_moved z b h id n f c' pl co sound s
             (moves sound z b h id v n f x p a kept.few s own can in_p is e begun el.1) v w (own_notes v n f)
             (refl, refl, refl, refl) refl
-            (own_after sound z b h id v n f x p a kept.few s own can in_p is e) good);
+            (own_after sound z b h id v n f x p a kept.few s own can in_p is e) (mine.tries can.live) good);
         happens = record { plain = λ _ _. refl; cells = refl };
         told = (
           (refl, refl, refl, refl, refl),

@@ -1,6 +1,6 @@
 -- A store to a word of the own install descriptor. Its number rises first, when no own install stands, so no note and
 -- no word of a node speaks of the new number yet; the fields are written while it is fresh.
-use Rattle.std.proofs.Common.{◌≡◌, ◌≢◌, ℕ, zero, suc, ◌<◌, ◌≤◌, ⊎_elim, true, [], refl, sym, ap, ap₂, ◌∙◌, subst, arith}
+use Rattle.std.proofs.Common.{◌≡◌, ◌≢◌, ℕ, zero, suc, ◌<◌, ◌≤◌, ⊎_elim, true, false, [], refl, sym, ap, ap₂, ◌∙◌, subst, arith}
 use mathlib.Core.Option.{none}
 use mathlib.Core.Logic.{dite}
 use native.Mathlib.Decide.{ℕ_discrete}
@@ -9,7 +9,7 @@ use Rattle.pc_model.specs.Cells.{Cells}
 use Rattle.pc_rule_law.specs.Board.{Size, own_install, at_own, address, Inside, Board, Only, put2}
 use Rattle.pc_rule_law.specs.Past.{Past, placing_word}
 use Rattle.pc_rule_law.specs.Views.{removed, OwnInstall, own_install_word, View, NoteHolds, AllNotes}
-use Rattle.pc_rule_law.specs.Rule.{Placed, Own, Shared, Holds}
+use Rattle.pc_rule_law.specs.Rule.{Placed, Own, OwnTries, Shared, Holds}
 use Rattle.pc_rule_law.specs.Conditions.{IsFree, CanStore}
 use Rattle.pc_rule_law.specs.Plays.{Mine, with_install_word, fresh_after, after_store, Stored, stores}
 use Rattle.pc_rule_law.proofs.Lists.{all_none}
@@ -57,7 +57,8 @@ module _ (sound : ℕ → Cells → Type 0) (z : Size) (b : Board) (h : Past) (i
       let same : h.course v.seat v.install.number ≡ h.course id j = ap₂ h.course own.seated.0 present in
       let e : h.course id j ≡ 1 = one in absurd (omega arith)) free
 
-  module _ (place x : ℕ) (can : CanStore v place x) (lt : place < 4) where
+  module _ (tries : v.posted ≡ false → (h.posted ≡ false) × OwnTries z.slots b id v.attempt) (place x : ℕ)
+      (can : CanStore v place x) (lt : place < 4) where
     abbrev install' : ℕ → ℕ → ℕ
     install' = put2 b.install id place x
 
@@ -161,10 +162,15 @@ module _ (sound : ℕ → Cells → Type 0) (z : Size) (b : Board) (h : Past) (i
         courses = λ q k. omega arith;
         placings = λ q k c. refl;
         descriptors = same_words;
+        clock = omega arith;
+        words = λ p a le place. refl;
+        written = λ p a le e busy. (e, busy, λ place. refl);
       };
-      leaves = record { count = refl; lives = λ j. refl; install = λ j ne i. others j i ne; unplaced = λ j ne k e. e; absent = λ j ne k e. e };
+      leaves = record { count = refl; lives = λ j. refl; install = λ j ne i. others j i ne; unplaced = λ j ne k e. e; absent = λ j ne k e. e; posted = refl; tries = λ j ne. record { number = refl; idle = λ i. i; busy = λ i. i; words = λ place. refl } };
       shared = shared;
       own = own_after;
+      tries = λ no. let t = tries no in
+          (t.0, record { number = t.1.number; resting = t.1.resting; running = t.1.running; words = t.1.words });
       noted = all_none (NoteHolds z b' h);
     }
 
@@ -187,7 +193,7 @@ module _ (sound : ℕ → Cells → Type 0) (z : Size) where
             (only_install b id place x);
         is = ap (λ (i : ℕ). put2 b.install id place x i place) own.seated.0 ∙ put2-here b.install id place x;
         kept = kept_after sound z b h views id v b' h w [] kept at live
-            (moves sound z b h id v s own mine.noted place x can in_p.1);
+            (moves sound z b h id v s own mine.noted (mine.tries live) place x can in_p.1);
         happens = same_values h;
         told = ((refl, refl, refl, refl, refl), λ _. refl);
       })

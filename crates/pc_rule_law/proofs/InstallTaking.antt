@@ -241,7 +241,7 @@ module _ (sound : ℕ → Cells → Type 0) (z : Size) where
         is = ap raw (put_cell-here b.cell n f c);
         kept = kept_after sound z b h views id v b' h' (with_notes v more) more kept at can.live
             (word_moved z b h id n f c h.placing co sound s wm v (with_notes v more) more
-            (refl, refl, refl, refl) refl (own_after sound z b h kept.few s id v own q k n f c p a kn in_p is more) good);
+            (refl, refl, refl, refl) refl (own_after sound z b h kept.few s id v own q k n f c p a kn in_p is more) (mine.tries can.live) good);
         happens = record { plain = λ _ _. refl; cells = refl };
         told = (
           (refl, refl, refl, refl, refl),

@@ -9,9 +9,9 @@ use Rattle.pc_model.specs.Cells.{Cells}
 use Rattle.pc_words.specs.declared.word.WordKind.TheVariants.{Exchange}
 use Rattle.pc_rule_law.specs.Board.{Size, Board}
 use Rattle.pc_rule_law.specs.Past.{Has, Attempt, Placing, Past, change, placing_word}
-use Rattle.pc_rule_law.specs.Stages.{IsUndecided, DecidedBelow}
-use Rattle.pc_rule_law.specs.Views.{Note, version, entry, placed, loaded, install_word, early, removed, decided_below, held, clean, View, IsClean, IsNoted, NoteHolds, AllNotes, with_notes}
-use Rattle.pc_rule_law.specs.Rule.{Own, Known, Shared, Kept}
+use Rattle.pc_rule_law.specs.Stages.{IsIdle, IsUndecided, DecidedBelow}
+use Rattle.pc_rule_law.specs.Views.{Note, version, entry, placed, loaded, install_word, early, removed, decided_below, held, clean, clock_at, word_loaded, attempt_word, OwnAttempt, View, IsClean, IsNoted, NoteHolds, AllNotes, with_notes}
+use Rattle.pc_rule_law.specs.Rule.{Own, OwnTries, opening_own, Known, Shared, Kept}
 use Rattle.pc_rule_law.proofs.Lists.{each_moved, below_length, all_both}
 use Rattle.pc_rule_law.proofs.Stages.{undecided_or_decided, decided_not_undecided}
 
@@ -31,6 +31,18 @@ pub record Grows (b : Board) (h : Past) (b' : Board) (h' : Past) : Type 0 where
   pub placings : (q k : ℕ) → 1 ≤ h.course q k → h'.placing q k ≡ h.placing q k
   pub descriptors : (q k : ℕ) → 1 ≤ h.course q k → b'.install q 0 ≡ k
       → (b.install q 0 ≡ k) × ((place : ℕ) → b'.install q place ≡ b.install q place)
+  pub clock : b.clock ≤ b'.clock
+  -- an attempt keeps its words, and they stand in the descriptor until it is cleared
+  pub words : (p a : ℕ) → a ≤ (b.status p).number → (place : ℕ) → h'.words p a place ≡ h.words p a place
+  pub written : (p a : ℕ) → a ≤ (b.status p).number → (b'.status p).number ≡ a → (IsIdle (b'.status p).stage → ⊥)
+      → ((b.status p).number ≡ a) × (IsIdle (b.status p).stage → ⊥) × ((place : ℕ) → b'.word p place ≡ b.word p place)
+
+-- the attempts of a pass are left alone: its number, whether it is idle, and its descriptor
+pub record LeavesTries (b b' : Board) (j : ℕ) : Type 0 where
+  pub number : (b'.status j).number ≡ (b.status j).number
+  pub idle : IsIdle (b.status j).stage → IsIdle (b'.status j).stage
+  pub busy : IsIdle (b'.status j).stage → IsIdle (b.status j).stage
+  pub words : (place : ℕ) → b'.word j place ≡ b.word j place
 
 -- what a step of the seat id leaves to the others: their installs
 pub record Leaves (id : ℕ) (b : Board) (h : Past) (b' : Board) (h' : Past) : Type 0 where
@@ -39,6 +51,8 @@ pub record Leaves (id : ℕ) (b : Board) (h : Past) (b' : Board) (h' : Past) : T
   pub install : (j : ℕ) → j ≢ id → (place : ℕ) → b'.install j place ≡ b.install j place
   pub unplaced : (j : ℕ) → j ≢ id → (k : ℕ) → h.course j k ≡ 0 → h'.course j k ≡ 0
   pub absent : (j : ℕ) → j ≢ id → (k : ℕ) → h.course j k ≢ 1 → h'.course j k ≢ 1
+  pub posted : h'.posted ≡ h.posted
+  pub tries : (j : ℕ) → j ≢ id → LeavesTries b b' j
 
 -- a note that is true stays true
 pub note_stays : (b b' : Board) (h h' : Past) → Grows b h b' h' → (x : Note) → IsNoted b h x → IsNoted b' h' x
@@ -76,6 +90,24 @@ note_stays b b' h h' g (held p a n f) t = let m = g.numbers p in let le = t.0 in
   ),
 )
 note_stays b b' h h' g (clean p a n f) t = (g.decisions p (a + 1) t.0, g.cleans p a n f t.0 t.1)
+note_stays b b' h h' g (clock_at c) t = let m = g.clock in omega arith
+note_stays b b' h h' g (word_loaded p a place x) t = let m = g.numbers p in let le = t.0 in
+    (omega arith, λ e busy. let was = g.written p a t.0 e busy in was.2 place ∙ t.1 was.0 was.1)
+note_stays b b' h h' g (attempt_word p a place x) t = let m = g.numbers p in let le = t.0 in
+    (omega arith, g.words p a t.0 place ∙ t.1)
+
+-- what a pass knows of its attempts stays true while others step
+pub tries_stay : (slots : ℕ) (b b' : Board) (j : ℕ) (own : OwnAttempt) → LeavesTries b b' j → OwnTries slots b j own
+    → OwnTries slots b' j own
+tries_stay slots b b' j own l t = record {
+  number = l.number ∙ t.number;
+  resting = λ no. l.idle (t.resting no);
+  running = λ yes idle. t.running yes (l.busy idle);
+  words = λ place lt. l.words place ∙ t.words place lt;
+}
+
+pub tries_alone : (b : Board) (j : ℕ) → LeavesTries b b j
+tries_alone b j = record { number = refl; idle = λ i. i; busy = λ i. i; words = λ place. refl }
 
 module _ (sound : ℕ → Cells → Type 0) (z : Size) where
   -- what a step of the seat id shows, whose view goes from v to w with these notes more
@@ -87,6 +119,7 @@ module _ (sound : ℕ → Cells → Type 0) (z : Size) where
     pub leaves : Leaves id b h b' h'
     pub shared : Shared sound z b' h'
     pub own : Own z b'.install h'.course id w
+    pub tries : w.posted ≡ false → (h'.posted ≡ false) × OwnTries z.slots b' id w.attempt
     pub noted : AllNotes (NoteHolds z b' h') more
 
   -- a view of another seat is still right
@@ -100,6 +133,7 @@ module _ (sound : ℕ → Cells → Type 0) (z : Size) where
       ahead = λ i lt. l.unplaced j ne i (o.ahead i lt);
       unplaced = λ new. l.unplaced j ne u.install.number (o.unplaced new);
     };
+    tries = λ live no. let t = k.tries live no in (l.posted ∙ t.0, tries_stay z.slots b b' j u.attempt (l.tries j ne) t.1);
     counted = record {
       live_is = k.counted.live_is ∙ sym (l.lives j);
       last_is = λ live is. l.count ∙ k.counted.last_is live is;
@@ -118,6 +152,7 @@ module _ (sound : ℕ → Cells → Type 0) (z : Size) where
       → Known z b h id v → v.live ≡ true → Moves b h id v b' h' w more → Known z b' h' id w
   own_stays b h id v b' h' w more k live m = let seat : v.seat ≡ id = (k.own live).seated.0 in record {
     own = λ _. m.own;
+    tries = λ _. m.tries;
     counted = record {
       live_is = m.same.0 ∙ (k.counted.live_is ∙ sym (m.leaves.lives id));
       last_is = λ now is. m.leaves.count
@@ -148,6 +183,9 @@ module _ (sound : ℕ → Cells → Type 0) (z : Size) where
               unplaced = λ i. l.unplaced j ne i (old.unplaced i);
               alive = l.lives j ∙ old.alive;
             };
+        untried = λ j le lt no. let c : h'.count ≡ h.count = l.count in
+            tries_stay z.slots b b' j (opening_own z) (l.tries j (λ e. absurd (omega arith)))
+            (k.untried j (subst (λ (c : ℕ). c ≤ j) l.count le) lt (sym l.posted ∙ no));
         shared = m.shared;
         each_view = each_moved views id w (Known z b h) (Known z b' h') k.each_view
             (own_stays b h id v b' h' w more mine live m)
@@ -165,10 +203,13 @@ module _ (sound : ℕ → Cells → Type 0) (z : Size) where
     courses = λ q k. omega arith;
     placings = λ q k c. refl;
     descriptors = λ q k c e. (e, λ place. refl);
+    clock = omega arith;
+    words = λ p a le place. refl;
+    written = λ p a le e busy. (e, busy, λ place. refl);
   }
 
   pub leaves_all : (id : ℕ) (b : Board) (h : Past) → Leaves id b h b h
-  leaves_all id b h = record { count = refl; lives = λ j. refl; install = λ j ne place. refl; unplaced = λ j ne k e. e; absent = λ j ne k e. e }
+  leaves_all id b h = record { count = refl; lives = λ j. refl; install = λ j ne place. refl; unplaced = λ j ne k e. e; absent = λ j ne k e. e; posted = refl; tries = λ j ne. tries_alone b j }
 
   -- a look changes no word: it adds notes that are true
   pub noted_more : (b : Board) (h : Past) (views : List View) (id : ℕ) (v : View) (more : List Note)
@@ -183,5 +224,6 @@ module _ (sound : ℕ → Cells → Type 0) (z : Size) where
         shared = k.shared;
         own = let o = (k.each_view id v at).own live in
             record { sized = o.sized; seated = o.seated; known = o.known; ahead = o.ahead; unplaced = o.unplaced };
+        tries = (k.each_view id v at).tries live;
         noted = noted;
       }

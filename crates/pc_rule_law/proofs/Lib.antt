@@ -1,4 +1,8 @@
+pub mod ClockLooks
 pub mod Closings
+pub mod DescriptorLooks
+pub mod DescriptorStores
+pub mod Descriptors
 pub mod Frames
 pub mod InstallLooks
 pub mod InstallPlacing
@@ -11,6 +15,7 @@ pub mod Looks
 pub mod Openings
 pub mod Outcomes
 pub mod Places
+pub mod Publishing
 pub mod ReadingBack
 pub mod Seats
 pub mod Stages

@@ -11,7 +11,8 @@ use Rattle.pc_rule_law.specs.Past.{Has, Describes, IsFormed}
 use Rattle.pc_rule_law.specs.Stages.{IsIdle}
 use Rattle.pc_rule_law.specs.Views.{Note, entry, NoteHolds, AllNotes}
 use Rattle.pc_rule_law.specs.Seats.{opening_past}
-use Rattle.pc_rule_law.specs.Openings.{Posted, posted_stage, opening_status, opening_changes, attempt_of, opening_attempt, changes_word, descriptor_word, entries_of, opening_notes, opening_board, MayOpen}
+use Rattle.pc_rule_law.specs.Rule.{OwnTries, opening_own}
+use Rattle.pc_rule_law.specs.Openings.{opening_words, Posted, posted_stage, opening_status, opening_changes, attempt_of, opening_attempt, changes_word, descriptor_word, entries_of, opening_notes, opening_board, MayOpen}
 use Rattle.pc_rule_law.proofs.Lists.{all_none, all_more, all_both, none_has}
 use Rattle.pc_rule_law.proofs.Seats.{Opens}
 
@@ -118,16 +119,35 @@ given_number start [] p lt = absurd (omega arith)
 given_number start (x ∷ xs) zero lt = refl
 given_number start (x ∷ xs) (suc p) lt = given_number start xs p (omega arith)
 
-module _ (sound : ℕ → Cells → Type 0) (z : Size) (cells : Cells) (posted : List Posted)
-    (may : MayOpen sound z cells posted) where
+described_all : (slots : ℕ) (posted : List Posted) (p a : ℕ) → Describes slots (opening_attempt posted p a) (opening_words posted p a)
+described_all slots posted p zero = describes_itself slots []
+described_all slots posted p (suc zero) = describes_itself slots (opening_changes posted p)
+described_all slots posted p (suc (suc a)) = describes_itself slots []
+
+no_words : (place : ℕ) → descriptor_word [] place ≡ 0
+no_words zero = refl
+no_words (suc zero) = refl
+no_words (suc (suc zero)) = refl
+no_words (suc (suc (suc place))) = refl
+
+module _ (sound : ℕ → Cells → Type 0) (z : Size) (cells : Cells) (given : Bool) (posted : List Posted)
+    (may : MayOpen sound z cells given posted) where
   noted_at : (p : ℕ) (x : Changed) → p < length posted → Has (opening_changes posted p) x
-      → NoteHolds z (opening_board z cells posted) (opening_past cells (opening_attempt posted)) (entry p 1 x)
+      → NoteHolds z (opening_board z cells posted) (opening_past cells (opening_attempt posted) (opening_words posted) given) (entry p 1 x)
   noted_at p x lt has = let number :
       (opening_status z.starts.attempt posted p).number ≡ 1 = given_number z.starts.attempt posted p lt in
       let few = may.few in
       ((omega arith, has), let i = (may.formed p).inside x has in ((omega arith, omega arith), i.0, i.1, i.2))
 
-  pub may_open : Opens sound z (opening_board z cells posted) cells (opening_attempt posted) (opening_notes 0 posted)
+  untried : (j : ℕ) → given ≡ false → OwnTries z.slots (opening_board z cells posted) j (opening_own z)
+  untried j none' = subst (λ (l : List Posted). OwnTries z.slots (opening_board z cells l) j (opening_own z)) (sym (may.none none')) record {
+    number = refl;
+    resting = λ _. tt;
+    running = λ yes. absurd (cc);
+    words = λ place _. no_words place;
+  }
+
+  pub may_open : Opens sound z (opening_board z cells posted) cells (opening_attempt posted) (opening_words posted) given (opening_notes 0 posted)
   may_open = record {
     few = may.seats.1;
     seat = may.seats.0;
@@ -137,11 +157,12 @@ module _ (sound : ℕ → Cells → Type 0) (z : Size) (cells : Cells) (posted :
     install = λ j place lt. refl;
     statuses = λ p. status_in_range z.starts.attempt posted p may.attempt;
     formed = λ p a. formed_all z.slots posted p a (may.formed p);
-    described = λ p busy. subst (λ (a : ℕ). Describes z.slots (opening_attempt posted p a)
-        (λ place. descriptor_word (opening_changes posted p) place))
-        (sym (given_first z.starts.attempt posted p busy)) (describes_itself z.slots (opening_changes posted p));
+    described = described_all z.slots posted;
+    written = λ p busy place _. subst (λ (a : ℕ). descriptor_word (opening_changes posted p) place ≡ opening_words posted p a place)
+        (sym (given_first z.starts.attempt posted p busy)) refl;
+    untried = untried;
     noted = all_opening (NoteHolds z (opening_board z cells posted)
-        (opening_past cells (opening_attempt posted))) 0 posted
+        (opening_past cells (opening_attempt posted) (opening_words posted) given)) 0 posted
         (λ p x lt has. subst (λ (i : ℕ). NoteHolds z (opening_board z cells posted)
-        (opening_past cells (opening_attempt posted)) (entry i 1 x)) (omega arith) (noted_at p x lt has));
+        (opening_past cells (opening_attempt posted) (opening_words posted) given) (entry i 1 x)) (omega arith) (noted_at p x lt has));
   }

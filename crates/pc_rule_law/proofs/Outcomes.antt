@@ -30,18 +30,23 @@ module _ (sound : ℕ → Cells → Type 0) (z : Size) (b : Board) (h : Past) (s
   at_number k stage = record { number = k; stage = stage }
 
   -- an attempt is published: its descriptor is written, and the status was idle
-  pub publishes : (e : Attempt) → IsIdle (b.status p).stage → a + 1 < 2 ^ 28 → IsFormed z.slots e
+  pub publishes : p ≡ id → (e : Attempt) → IsIdle (b.status p).stage → a + 1 < 2 ^ 28 → IsFormed z.slots e
       → Describes z.slots e (b.word p)
       → StatusMoves sound z b h id p (at_number (a + 1) Undecided) h.cells h.plain (put2 h.attempt p (a + 1) e)
-  publishes e idle small formed described = record {
+      (put2 h.words p (a + 1) (b.word p))
+  publishes own e idle small formed described = record {
     in_range = (small, tt);
     number = omega arith;
     once = λ same. absurd (omega arith);
     attempts = λ q c le. put2-else h.attempt p (a + 1) q c e
         (λ is d. absurd (let n : (b.status q).number ≡ a = ap (λ (r : ℕ). (b.status r).number) is in omega arith));
     formed = λ q c. at_put2 h.attempt p (a + 1) e (λ _ _ y. IsFormed z.slots y) q c formed (λ _. s.formed q c);
-    described = λ _. subst (λ (y : Attempt). Describes z.slots y (b.word p))
-        (sym (put2-here h.attempt p (a + 1) e)) described;
+    words_stay = λ q c le place. ap (λ (w : ℕ → ℕ). w place) (put2-else h.words p (a + 1) q c (b.word p)
+        (λ is d. absurd (let n : (b.status q).number ≡ a = ap (λ (r : ℕ). (b.status r).number) is in omega arith)));
+    described = λ q c. described_then q c;
+    written = λ _ place lt. sym (ap (λ (w : ℕ → ℕ). w place) (put2-here h.words p (a + 1) (b.word p)));
+    uncleared = λ same. absurd (omega arith);
+    foreign = λ ne. absurd (ne own);
     versions = λ n. omega arith;
     others = λ n f _. refl;
     words = λ n f old new _ busy. absurd (busy idle);
@@ -49,17 +54,27 @@ module _ (sound : ℕ → Cells → Type 0) (z : Size) (b : Board) (h : Past) (s
     sound_now = s.sound_now;
     tied = s.tied;
   }
+    where
+      described_then : (q c : ℕ) → Describes z.slots (put2 h.attempt p (a + 1) e q c) (put2 h.words p (a + 1) (b.word p) q c)
+      described_then q c = at_put2 h.attempt p (a + 1) e
+          (λ r i y. Describes z.slots y (put2 h.words p (a + 1) (b.word p) r i)) q c
+          (subst (Describes z.slots e) (sym (put2-here h.words p (a + 1) (b.word p))) described)
+          (λ ne. subst (Describes z.slots (h.attempt q c)) (sym (put2-else h.words p (a + 1) q c (b.word p) ne)) (s.described q c))
 
   -- an undecided attempt fails: no plain value changes
   pub fails : (stage : Stage) → StageInRange stage → IsOpen (b.status p).stage → IsUnmade stage → (IsOpen stage → ⊥)
-      → StatusMoves sound z b h id p (at_number a stage) h.cells h.plain h.attempt
+      → StatusMoves sound z b h id p (at_number a stage) h.cells h.plain h.attempt h.words
   fails stage in_range pending unmade closed = record {
     in_range = ((s.statuses p).0, in_range);
     number = omega arith;
     once = λ _ o. absurd (closed o);
     attempts = λ q c le. refl;
     formed = s.formed;
-    described = λ _. s.described p (open_not_idle (b.status p).stage pending);
+    words_stay = λ q c le place. refl;
+    described = s.described;
+    written = λ _. s.written p (open_not_idle (b.status p).stage pending);
+    uncleared = λ _ _. open_not_idle (b.status p).stage pending;
+    foreign = λ _. (refl, unmade_not_idle stage unmade, open_not_idle (b.status p).stage pending);
     versions = λ n. omega arith;
     others = λ n f _. refl;
     words = λ n f old new _ _ _ is. (
@@ -91,14 +106,18 @@ module _ (sound : ℕ → Cells → Type 0) (z : Size) (b : Board) (h : Past) (s
       → ((n : ℕ) (f : Field) → b.cell n f ≢ Exchange p a → plain' n f ≡ h.plain n f)
       → ((n : ℕ) → h.plain n Version ≤ plain' n Version) → sound z.slots cells'
       → ((n : ℕ) (f : Field) → plain' n f ≡ cells' n f)
-      → StatusMoves sound z b h id p (at_number a (Succeeded stamp)) cells' plain' h.attempt
+      → StatusMoves sound z b h id p (at_number a (Succeeded stamp)) cells' plain' h.attempt h.words
   succeeds stamp cells' plain' small pending held gets stays rises sound_now tied = record {
     in_range = ((s.statuses p).0, small);
     number = omega arith;
     once = λ _ o. absurd o;
     attempts = λ q c le. refl;
     formed = s.formed;
-    described = λ _. s.described p (open_not_idle (b.status p).stage pending);
+    words_stay = λ q c le place. refl;
+    described = s.described;
+    written = λ _. s.written p (open_not_idle (b.status p).stage pending);
+    uncleared = λ _ _. open_not_idle (b.status p).stage pending;
+    foreign = λ _. (refl, (λ idle. idle), open_not_idle (b.status p).stage pending);
     versions = rises;
     others = stays;
     words = λ n f old new _ _ has _. (refl, (λ idle. idle), sym (gets (change n f old new) has));
@@ -108,16 +127,20 @@ module _ (sound : ℕ → Cells → Type 0) (z : Size) (b : Board) (h : Past) (s
   }
 
   -- a decided attempt all of whose words are clean is cleared
-  pub clears : (IsOpen (b.status p).stage → ⊥)
+  pub clears : p ≡ id → (IsOpen (b.status p).stage → ⊥)
       → ((x : Changed) → Has (h.attempt p a).changes x → IsClean h.placing p a (b.cell x.node x.field))
-      → StatusMoves sound z b h id p (at_number a Idle) h.cells h.plain h.attempt
-  clears closed clean = record {
+      → StatusMoves sound z b h id p (at_number a Idle) h.cells h.plain h.attempt h.words
+  clears own closed clean = record {
     in_range = ((s.statuses p).0, tt);
     number = omega arith;
     once = λ _ o. absurd o;
     attempts = λ q c le. refl;
     formed = s.formed;
-    described = λ busy. absurd (busy tt);
+    words_stay = λ q c le place. refl;
+    described = s.described;
+    written = λ busy. absurd (busy tt);
+    uncleared = λ _ busy. absurd (busy tt);
+    foreign = λ ne. absurd (ne own);
     versions = λ n. omega arith;
     others = λ n f _. refl;
     words = λ n f old new is _ has _. absurd

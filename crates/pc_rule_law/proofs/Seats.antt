@@ -1,6 +1,6 @@
 -- The last pass makes another, and takes another in; and a board that opens with sound cells and one pass keeps the
 -- rule.
-use Rattle.std.proofs.Common.{◌≡◌, ◌≢◌, ℕ, zero, suc, ◌+◌, ◌<◌, ◌≤◌, true, false, List, [], ◌∷◌, length, set, length-set, length-append, refl, sym, ap, ◌∙◌, subst, arith}
+use Rattle.std.proofs.Common.{◌≡◌, ◌≢◌, ℕ, zero, suc, ◌+◌, ◌<◌, ◌≤◌, Bool, true, false, List, [], ◌∷◌, length, set, length-set, length-append, refl, sym, ap, ◌∙◌, subst, arith}
 use mathlib.Core.Option.{some, some-injective, some-ne-none}
 use mathlib.Core.Logic.{dite}
 use native.Mathlib.Decide.{ℕ_discrete}
@@ -12,11 +12,11 @@ use Rattle.pc_model.specs.Cells.{Cells}
 use Rattle.pc_words.specs.declared.word.WordKind.TheVariants.{Plain}
 use Rattle.pc_words.specs.Words.{InRange}
 use Rattle.pc_words.specs.Statuses.{StatusInRange}
-use Rattle.pc_rule_law.specs.Board.{Size, Board, Represents, put}
+use Rattle.pc_rule_law.specs.Board.{Size, Board, Represents, descriptor_words, put}
 use Rattle.pc_rule_law.specs.Past.{Attempt, Past, Describes, IsFormed}
 use Rattle.pc_rule_law.specs.Stages.{IsIdle}
 use Rattle.pc_rule_law.specs.Views.{Note, own_install_word, View, NoteHolds, AllNotes}
-use Rattle.pc_rule_law.specs.Rule.{Each, CellOk, Own, opening_install, Known, Kept, Holds}
+use Rattle.pc_rule_law.specs.Rule.{Each, CellOk, Own, OwnTries, opening_install, opening_own, Known, Kept, Holds}
 use Rattle.pc_rule_law.specs.Conditions.{IsFree}
 use Rattle.pc_rule_law.specs.Seats.{new_view, maker, made_by, joined_by, spent_view, opening_past}
 use Rattle.pc_rule_law.proofs.Lists.{each_moved, each_snoc, below_length, all_none}
@@ -41,6 +41,7 @@ module _ (sound : ℕ → Cells → Type 0) (z : Size) where
       (Known z b h') k.each_view
       record {
         own = λ _. record { sized = own.sized; seated = own.seated; known = own.known; ahead = own.ahead; unplaced = own.unplaced };
+        tries = mine.tries;
         counted = record {
           live_is = mine.counted.live_is;
           last_is = λ _ no. absurd
@@ -51,6 +52,7 @@ module _ (sound : ℕ → Cells → Type 0) (z : Size) where
       }
       (λ j u ne _ other. record {
         own = other.own;
+        tries = other.tries;
         counted = record {
           live_is = other.counted.live_is;
           last_is = λ alive is. absurd (not_last z b h id v count own j u ne other alive is);
@@ -69,7 +71,8 @@ module _ (sound : ℕ → Cells → Type 0) (z : Size) where
           counted = length-append (set views id (maker v)) (made ∷ []) ∙ ap (λ (i : ℕ). i + 1) len;
           blank = λ j le lt. let old = k.blank j (omega arith) lt in
               record { words = old.words; unplaced = old.unplaced; alive = old.alive };
-          shared = let s' = k.shared in record { sound_now = s'.sound_now; tied = s'.tied; ranges = s'.ranges; statuses = s'.statuses; formed = s'.formed; described = s'.described; each_cell = s'.each_cell; installs = s'.installs };
+          untried = λ j le lt no. k.untried j (omega arith) lt no;
+          shared = let s' = k.shared in record { sound_now = s'.sound_now; tied = s'.tied; ranges = s'.ranges; statuses = s'.statuses; formed = s'.formed; described = s'.described; written = s'.written; each_cell = s'.each_cell; installs = s'.installs };
           each_view = each_snoc (set views id (maker v)) made (Known z b h') changed
               (subst (λ (i : ℕ). Known z b h' i made) (sym len) record {
                 own = λ _. record {
@@ -80,6 +83,11 @@ module _ (sound : ℕ → Cells → Type 0) (z : Size) where
                   ahead = λ i _. blank.unplaced i;
                   unplaced = λ _. blank.unplaced v.size.starts.install;
                 };
+                tries = λ _ no. let t = mine.tries live no in (
+                  t.0,
+                  subst (λ (y : Size). OwnTries z.slots b h.count (opening_own y)) (sym own.sized)
+                      (k.untried h.count (omega arith) (omega arith) t.0),
+                );
                 counted = record {
                   live_is = sym blank.alive;
                   last_is = λ _ _. ap (λ (i : ℕ). i + 1) count;
@@ -113,6 +121,7 @@ module _ (sound : ℕ → Cells → Type 0) (z : Size) where
       (λ j x. j ≢ other → Known z b h' j x) k.each_view
       (λ ne. record {
         own = λ _. record { sized = own.sized; seated = own.seated; known = own.known; ahead = own.ahead; unplaced = own.unplaced };
+        tries = mine.tries;
         counted = record {
           live_is = mine.counted.live_is ∙ sym (put-else h.live other id false ne);
           last_is = mine.counted.last_is;
@@ -129,6 +138,7 @@ module _ (sound : ℕ → Cells → Type 0) (z : Size) where
       })
       (λ j x _ _ y ne. record {
         own = y.own;
+        tries = y.tries;
         counted = record {
           live_is = y.counted.live_is ∙ sym (put-else h.live other j false ne);
           last_is = y.counted.last_is;
@@ -151,11 +161,13 @@ module _ (sound : ℕ → Cells → Type 0) (z : Size) where
                 (λ e. let below : other < h.count = subst (λ (i : ℕ). other < i) k.counted
                 (below_length views other w there) in absurd (omega arith)) ∙ old.alive;
           };
-          shared = let s' = k.shared in record { sound_now = s'.sound_now; tied = s'.tied; ranges = s'.ranges; statuses = s'.statuses; formed = s'.formed; described = s'.described; each_cell = s'.each_cell; installs = s'.installs };
+          untried = k.untried;
+          shared = let s' = k.shared in record { sound_now = s'.sound_now; tied = s'.tied; ranges = s'.ranges; statuses = s'.statuses; formed = s'.formed; described = s'.described; written = s'.written; each_cell = s'.each_cell; installs = s'.installs };
           each_view = each_moved (set views id u) other spent_view (λ j x. j ≢ other → Known z b h' j x)
               (Known z b h') first
               record {
                 own = λ no. absurd (true_not_false (sym no));
+                tries = λ no. absurd (true_not_false (sym no));
                 counted = record {
                   live_is = sym (put-here h.live other false);
                   last_is = λ no. absurd
@@ -173,7 +185,8 @@ module _ (sound : ℕ → Cells → Type 0) (z : Size) where
   one_view v P here (suc j) u at = absurd (some-ne-none u (sym at))
 
   -- the words of a board that opens: its words of nodes are plain, and no install was written
-  pub record Opens (b : Board) (cells : Cells) (attempt : ℕ → ℕ → Attempt) (notes : List Note) : Type 0 where
+  pub record Opens (b : Board) (cells : Cells) (attempt : ℕ → ℕ → Attempt) (words : ℕ → ℕ → ℕ → ℕ) (posted : Bool)
+      (notes : List Note) : Type 0 where
     pub few : z.seats ≤ 32
     pub seat : 0 < z.seats
     pub sound_now : sound z.slots cells
@@ -182,18 +195,21 @@ module _ (sound : ℕ → Cells → Type 0) (z : Size) where
     pub install : (j place : ℕ) → place < 4 → b.install j place ≡ own_install_word (opening_install z) place
     pub statuses : (p : ℕ) → StatusInRange (b.status p)
     pub formed : (p a : ℕ) → IsFormed z.slots (attempt p a)
-    pub described : (p : ℕ) → (IsIdle (b.status p).stage → ⊥)
-        → Describes z.slots (attempt p (b.status p).number) (b.word p)
-    pub noted : AllNotes (NoteHolds z b (opening_past cells attempt)) notes
+    pub described : (p a : ℕ) → Describes z.slots (attempt p a) (words p a)
+    pub written : (p : ℕ) → (IsIdle (b.status p).stage → ⊥) → (place : ℕ) → place < descriptor_words z.slots
+        → b.word p place ≡ words p (b.status p).number place
+    pub untried : (j : ℕ) → posted ≡ false → OwnTries z.slots b j (opening_own z)
+    pub noted : AllNotes (NoteHolds z b (opening_past cells attempt words posted)) notes
 
   -- a board that opens keeps the rule, with its first pass
-  pub opens : (b : Board) (cells : Cells) (attempt : ℕ → ℕ → Attempt) (notes : List Note)
-      → Opens b cells attempt notes → Kept sound z b (opening_past cells attempt) (new_view z 0 notes ∷ [])
-  opens b cells attempt notes o = let h = opening_past cells attempt in record {
+  pub opens : (b : Board) (cells : Cells) (attempt : ℕ → ℕ → Attempt) (words : ℕ → ℕ → ℕ → ℕ) (posted : Bool) (notes : List Note)
+      → Opens b cells attempt words posted notes → Kept sound z b (opening_past cells attempt words posted) (new_view z 0 posted notes ∷ [])
+  opens b cells attempt words posted notes o = let h = opening_past cells attempt words posted in record {
     few = o.few;
     room = o.seat;
     counted = refl;
     blank = λ j _ _. record { words = o.install j; unplaced = λ k. refl; alive = refl };
+    untried = λ j _ _. o.untried j;
     shared = record {
       sound_now = o.sound_now;
       tied = λ n f. refl;
@@ -201,11 +217,12 @@ module _ (sound : ℕ → Cells → Type 0) (z : Size) where
       statuses = o.statuses;
       formed = o.formed;
       described = o.described;
+      written = o.written;
       each_cell = λ n f. subst (CellOk z.seats b.status h.attempt h.placing h.course (cells n f) n f)
           (sym (o.plain n f)) refl;
       installs = λ q k no. absurd (omega arith);
     };
-    each_view = one_view (new_view z 0 notes) (Known z b h) record {
+    each_view = one_view (new_view z 0 posted notes) (Known z b h) record {
       own = λ _. record {
         sized = refl;
         seated =
@@ -214,11 +231,13 @@ module _ (sound : ℕ → Cells → Type 0) (z : Size) where
         ahead = λ k _. refl;
         unplaced = λ _. refl;
       };
+      tries = λ _ no. (no, o.untried 0 no);
       counted = record { live_is = refl; last_is = λ _ _. refl; taken = λ _ _ i le lt ne. absurd (ne (omega arith)) };
       noted = o.noted;
     };
   }
 
-  pub opening_holds : (ws : List ℕ) (b : Board) (cells : Cells) (attempt : ℕ → ℕ → Attempt) (notes : List Note)
-      → Represents z ws b → Opens b cells attempt notes → Holds sound z (opening ws [] (new_view z 0 notes))
-  opening_holds ws b cells attempt notes represents o = record { board = b; past = opening_past cells attempt; represents = represents; kept = opens b cells attempt notes o }
+  pub opening_holds : (ws : List ℕ) (b : Board) (cells : Cells) (attempt : ℕ → ℕ → Attempt) (words : ℕ → ℕ → ℕ → ℕ)
+      (posted : Bool) (notes : List Note) → Represents z ws b → Opens b cells attempt words posted notes
+      → Holds sound z (opening ws [] (new_view z 0 posted notes))
+  opening_holds ws b cells attempt words posted notes represents o = record { board = b; past = opening_past cells attempt words posted; represents = represents; kept = opens b cells attempt words posted notes o }

@@ -1,6 +1,6 @@
 -- The load of a status: which attempts of the pass are decided. Where the present one isn't, each install that is
 -- known to be for it was placed while it was undecided, since a number is undecided only once.
-use Rattle.std.proofs.Common.{◌≡◌, ℕ, zero, suc, ◌+◌, ◌*◌, ◌^◌, ◌<◌, ◌≤◌, Bool, true, false, ◌==◌, List, [], ◌∷◌, refl, sym, ◌∙◌, subst, arith}
+use Rattle.std.proofs.Common.{◌≡◌, ℕ, zero, suc, ◌+◌, ◌*◌, ◌^◌, ◌<◌, ◌≤◌, Bool, true, false, ◌==◌, List, [], ◌∷◌, ◌++◌, refl, sym, ap, ◌∙◌, subst, eqb-true, eq-eqb, arith}
 use mathlib.Core.Option.{none}
 use Rattle.atomic_table.specs.Table.{step, Allows}
 use Rattle.pc_model.specs.Cells.{Cells}
@@ -13,13 +13,13 @@ use Rattle.pc_words.specs.Statuses.{packed, unpacked}
 use Rattle.pc_words.proofs.Statuses.{unpacked_packed}
 use Rattle.pc_rule_law.specs.Board.{Size, own_status, at_own, address, Inside, Board}
 use Rattle.pc_rule_law.specs.Past.{Has, Past, placing_word}
-use Rattle.pc_rule_law.specs.Stages.{IsOpen, IsUndecided, decided_from, decided_by}
-use Rattle.pc_rule_law.specs.Views.{Note, entry, install_word, early, decided_below, held, View, NoteHolds, AllNotes, with_notes}
-use Rattle.pc_rule_law.specs.Rule.{Shared, Holds}
+use Rattle.pc_rule_law.specs.Stages.{IsIdle, IsOpen, IsUndecided, decided_from, decided_by}
+use Rattle.pc_rule_law.specs.Views.{Note, entry, install_word, early, decided_below, held, word_loaded, attempt_word, View, NoteHolds, AllNotes, with_notes}
+use Rattle.pc_rule_law.specs.Rule.{Known, Shared, Holds}
 use Rattle.pc_rule_law.specs.Plays.{Mine, StatusLoaded, LoadedStatus, loads_status}
-use Rattle.pc_rule_law.proofs.Lists.{all_none, all_more, has_left, has_first, has_later}
+use Rattle.pc_rule_law.proofs.Lists.{all_none, all_more, all_both, has_left, has_right, has_first, has_later}
 use Rattle.pc_rule_law.proofs.Keeping.{noted_more}
-use Rattle.pc_rule_law.proofs.Learning.{learnt, has_learnt, all_learnt, only_if, when, has_if_same, all_if_same, has_when, all_when, later_more}
+use Rattle.pc_rule_law.proofs.Learning.{learnt, has_learnt, all_learnt, only_if, has_only_if, all_only_if, when, has_if_same, all_if_same, has_when, all_when, later_more}
 use Rattle.pc_rule_law.proofs.Stages.{decided_not_undecided}
 use Rattle.pc_rule_law.proofs.Steps.{SameValues, same_values, looked}
 
@@ -62,6 +62,36 @@ abbrev learn_status : ℕ → ℕ → Note → List Note
 learn_status p m (install_word q k (suc zero) x) = only_if (x == raw (Exchange p m)) (early q k)
 learn_status p m _ = []
 
+-- of each word of the present descriptor that was loaded, that it is a word of attempt m
+abbrev learn_words : ℕ → ℕ → Note → List Note
+learn_words p m (word_loaded q a place x) = when (q == p) (only_if (a == m) (attempt_word q a place x))
+learn_words p m _ = []
+
+-- whether a stage isn't idle
+abbrev is_busy : Stage → Bool
+is_busy Idle = false
+is_busy Undecided = true
+is_busy (Succeeded t) = true
+is_busy Withdrawn = true
+is_busy (Changed n) = true
+is_busy (Locked n p) = true
+
+busy_is : (s : Stage) → (IsIdle s → ⊥) → is_busy s ≡ true
+busy_is Idle busy = absurd (busy tt)
+busy_is Undecided busy = refl
+busy_is (Succeeded t) busy = refl
+busy_is Withdrawn busy = refl
+busy_is (Changed n) busy = refl
+busy_is (Locked n p) busy = refl
+
+is_busy_then : (s : Stage) → is_busy s ≡ true → IsIdle s → ⊥
+is_busy_then Idle e i = absurd (cc)
+is_busy_then Undecided e i = i
+is_busy_then (Succeeded t) e i = i
+is_busy_then Withdrawn e i = i
+is_busy_then (Changed n) e i = i
+is_busy_then (Locked n p) e i = i
+
 bool_cases : (P : Type 0) (c : Bool) → (c ≡ true → P) → (c ≡ false → P) → P
 bool_cases P true t f = t refl
 bool_cases P false t f = f refl
@@ -92,26 +122,60 @@ module _ (sound : ℕ → Cells → Type 0) (z : Size) (b : Board) (h : Past) (f
       ))
   status_learnt p lt undecided _ g = all_none (NoteHolds z b h)
 
-  status_loaded : (v : View) (more : List Note) (p : ℕ) → p < z.seats → AllNotes (NoteHolds z b h) v.notes
-      → more ≡ decided_below p (decided_by (b.status p))
-      ∷ when (is_open (b.status p).stage) (learnt (learn_status p (b.status p).number) v.notes)
+  words_learnt : (p : ℕ) → (IsIdle (b.status p).stage → ⊥) → (x : Note) → NoteHolds z b h x
+      → AllNotes (NoteHolds z b h) (learn_words p (b.status p).number x)
+  words_learnt p busy (word_loaded q a place x) g = all_when (NoteHolds z b h) (q == p)
+      (only_if (a == (b.status p).number) (attempt_word q a place x))
+      (λ e. all_only_if (NoteHolds z b h) (a == (b.status p).number) (attempt_word q a place x) (λ d.
+      let seat : q ≡ p = eqb-true q p e in let number : a ≡ (b.status p).number = eqb-true a (b.status p).number d in
+      let now : (b.status q).number ≡ a = ap (λ (r : ℕ). (b.status r).number) seat ∙ sym number in
+      let there : IsIdle (b.status q).stage → ⊥ = λ idle. busy (subst (λ (r : ℕ). IsIdle (b.status r).stage) seat idle) in
+      let stands : b.word q place ≡ h.words q (b.status q).number place = s.written q there place g.1.1 in (
+        (g.0.0, ap (λ (c : ℕ). h.words q c place) (sym now) ∙ (sym stands ∙ g.0.1 now there)),
+        g.1,
+      )))
+  words_learnt p busy _ g = all_none (NoteHolds z b h)
+
+  -- what a load of a status adds to what the pass knows
+  abbrev pub learnt_of_status : View → ℕ → List Note
+  learnt_of_status v p = when (is_open (b.status p).stage) (learnt (learn_status p (b.status p).number) v.notes)
+      ++ when (is_busy (b.status p).stage) (learnt (learn_words p (b.status p).number) v.notes)
+
+  status_loaded : (id : ℕ) (v : View) (more : List Note) (p : ℕ) → p < z.seats → v.live ≡ true → Known z b h id v
+      → more ≡ decided_below p (decided_by (b.status p)) ∷ learnt_of_status v p
       → StatusLoaded v p (b.status p) (with_notes v more)
-  status_loaded v more p lt good is = let m : ℕ = (b.status p).number in
+  status_loaded id v more p lt live mine is = let m : ℕ = (b.status p).number in
+      let good : AllNotes (NoteHolds z b h) v.notes = mine.noted in
       let first = decided_below p (decided_by (b.status p)) in
-      let more' = when (is_open (b.status p).stage) (learnt (learn_status p m) v.notes) in record {
+      let opened = when (is_open (b.status p).stage) (learnt (learn_status p m) v.notes) in
+      let settled = when (is_busy (b.status p).stage) (learnt (learn_words p m) v.notes) in
+      let more' = opened ++ settled in record {
         later = later_more v more;
         decided = (more, refl, subst (λ (l : List Note). Has l first) (sym is) (has_first first more'));
         undecided = λ o q k has. has_left more v.notes (early q k)
             (subst (λ (l : List Note). Has l (early q k)) (sym is) (has_later first more' (early q k)
+            (has_left opened settled (early q k)
             (has_when (is_open (b.status p).stage) (learnt (learn_status p m) v.notes) (early q k)
             (open_is (b.status p).stage o)
             (has_learnt (learn_status p m) v.notes (install_word q k 1 (raw (Exchange p m))) (early q k) has
-            (has_if_same (raw (Exchange p m)) (raw (Exchange p m)) (early q k) refl)))));
+            (has_if_same (raw (Exchange p m)) (raw (Exchange p m)) (early q k) refl))))));
         installs_below = λ q k a has. let g = good (install_word q k 1 (raw (Exchange p a))) has in
             let n = named q k p a g.0.0 lt g.0.1 in let y = s.installs q k g.0.0 in
             subst (λ (i : ℕ × ℕ). i.1 ≤ (b.status i.0).number) (λ j. (n.0 j, n.1 j)) y.published;
         entries_below = λ a x has. (good (entry p a x) has).0.0;
         held_below = λ a n f has. (good (held p a n f) has).0.0;
+        settles = λ busy place x has. has_left more v.notes (attempt_word p m place x)
+            (subst (λ (l : List Note). Has l (attempt_word p m place x)) (sym is)
+            (has_later first more' (attempt_word p m place x) (has_right opened settled (attempt_word p m place x)
+            (has_when (is_busy (b.status p).stage) (learnt (learn_words p m) v.notes) (attempt_word p m place x)
+            (busy_is (b.status p).stage busy)
+            (has_learnt (learn_words p m) v.notes (word_loaded p m place x) (attempt_word p m place x) has
+            (has_when (p == p) (only_if (m == m) (attempt_word p m place x)) (attempt_word p m place x) (eq-eqb p p refl)
+            (has_only_if (m == m) (attempt_word p m place x) (eq-eqb m m refl))))))));
+        words_below = λ a place x has. (good (attempt_word p a place x) has).0.0;
+        own = λ seat none'. let own = mine.own live in let t = (mine.tries live none').1 in let self : p ≡ id = seat ∙ own.seated.0 in
+            subst (λ (q : ℕ). ((b.status q).number ≡ v.attempt.number) × (v.attempt.published ≡ false → IsIdle (b.status q).stage)
+            × (v.attempt.published ≡ true → IsIdle (b.status q).stage → ⊥)) (sym self) (t.number, t.resting, t.running);
       }
 
 module _ (sound : ℕ → Cells → Type 0) (z : Size) where
@@ -124,7 +188,9 @@ module _ (sound : ℕ → Cells → Type 0) (z : Size) where
       (LoadedStatus me.0) in_p sized
       (λ b h views k at. let v = me.0 in let st : Status = b.status p in let mine = k.each_view id v at in
       let first = decided_below p (decided_by st) in
-      let more = first ∷ when (is_open st.stage) (learnt (learn_status p st.number) v.notes) in
+      let opened = when (is_open st.stage) (learnt (learn_status p st.number) v.notes) in
+      let settled = when (is_busy st.stage) (learnt (learn_words p st.number) v.notes) in
+      let more = first ∷ (opened ++ settled) in
       let good : AllNotes (NoteHolds z b h) v.notes = mine.noted in
       let small = k.shared.statuses p in
       let same : unpacked (packed st) ≡ st = unpacked_packed st small in
@@ -132,17 +198,20 @@ module _ (sound : ℕ → Cells → Type 0) (z : Size) where
       let here : NoteHolds z b h first = (now, (in_p.0, (let le = now.0 in omega arith))) in (
         with_notes v more,
         noted_more sound z b h views id v more k at live
-            (all_more (NoteHolds z b h) first
-            (when (is_open st.stage) (learnt (learn_status p st.number) v.notes)) here
+            (all_more (NoteHolds z b h) first (opened ++ settled) here
+            (all_both (NoteHolds z b h) opened settled
             (all_when (NoteHolds z b h) (is_open st.stage) (learnt (learn_status p st.number) v.notes)
             (λ o. all_learnt (NoteHolds z b h) (learn_status p st.number) v.notes
-            (λ x has. status_learnt sound z b h k.few k.shared p in_p.0 (is_open_then st.stage o) x (good x has))))),
+            (λ x has. status_learnt sound z b h k.few k.shared p in_p.0 (is_open_then st.stage o) x (good x has))))
+            (all_when (NoteHolds z b h) (is_busy st.stage) (learnt (learn_words p st.number) v.notes)
+            (λ o. all_learnt (NoteHolds z b h) (learn_words p st.number) v.notes
+            (λ x has. words_learnt sound z b h k.few k.shared p (is_busy_then st.stage o) x (good x has)))))),
         (
           (refl, refl, refl, refl, refl),
           (
             (st, small, refl),
             subst (λ (u : Status). StatusLoaded v p u (with_notes v more)) (sym same)
-                (status_loaded sound z b h k.few k.shared v more p in_p.0 good refl),
+                (status_loaded sound z b h k.few k.shared id v more p in_p.0 live mine refl),
           ),
         ),
       ))

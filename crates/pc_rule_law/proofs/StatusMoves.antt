@@ -1,7 +1,7 @@
 -- One status changes: an attempt is published, decided or cleared. What the row that changes it shows, and that this
 -- is all the rule asks. Words, installs and descriptors stay; the plain values may change, in the words of that
 -- attempt alone.
-use Rattle.std.proofs.Common.{◌≡◌, ◌≢◌, ℕ, ◌+◌, ◌≤◌, true, false, List, ◌++◌, refl, sym, ap, ◌∙◌, subst, arith}
+use Rattle.std.proofs.Common.{◌≡◌, ◌≢◌, ℕ, ◌+◌, ◌<◌, ◌≤◌, true, false, List, ◌++◌, refl, sym, ap, ◌∙◌, subst, arith}
 use mathlib.Core.Logic.{dite}
 use native.Mathlib.Decide.{ℕ_discrete}
 use Rattle.pc_model.specs.declared.cell.Field.{Field}
@@ -11,23 +11,23 @@ use Rattle.pc_words.specs.declared.word.WordKind.{WordKind}
 use Rattle.pc_words.specs.declared.word.WordKind.TheVariants.{Plain, Install, Exchange}
 use Rattle.pc_words.specs.declared.status.Status.{Status}
 use Rattle.pc_words.specs.Statuses.{StatusInRange}
-use Rattle.pc_rule_law.specs.Board.{Size, Board, put}
+use Rattle.pc_rule_law.specs.Board.{Size, Board, descriptor_words, put}
 use Rattle.pc_rule_law.specs.Past.{Has, Attempt, Past, change, Describes, IsFormed}
 use Rattle.pc_rule_law.specs.Stages.{IsIdle, IsOpen, IsUnmade, value_by, IsUndecided, DecidedBelow}
 use Rattle.pc_rule_law.specs.Views.{Note, View, NoteHolds, AllNotes}
-use Rattle.pc_rule_law.specs.Rule.{Holding, CellOk, Placed, Own, Shared}
+use Rattle.pc_rule_law.specs.Rule.{Holding, CellOk, Placed, Own, OwnTries, Shared}
 use Rattle.pc_rule_law.proofs.WordKinds.{plain_not_exchange, install_not_exchange, seat_of}
 use Rattle.pc_rule_law.proofs.Updates.{put-here, put-else, at_put}
-use Rattle.pc_rule_law.proofs.Keeping.{Grows, Moves}
+use Rattle.pc_rule_law.proofs.Keeping.{Grows, LeavesTries, Moves}
 
 abbrev pub with_status : Board → ℕ → Status → Board
 with_status b p t = record b { status = put b.status p t }
 
-abbrev pub with_values : Past → Cells → Cells → (ℕ → ℕ → Attempt) → Past
-with_values h cells' plain' attempt' = record h { cells = cells'; plain = plain'; attempt = attempt' }
+abbrev pub with_values : Past → Cells → Cells → (ℕ → ℕ → Attempt) → (ℕ → ℕ → ℕ → ℕ) → Past
+with_values h cells' plain' attempt' words' = record h { cells = cells'; plain = plain'; attempt = attempt'; words = words' }
 
 module _ (sound : ℕ → Cells → Type 0) (z : Size) (b : Board) (h : Past) (id p : ℕ) (t : Status)
-    (cells' plain' : Cells) (attempt' : ℕ → ℕ → Attempt) where
+    (cells' plain' : Cells) (attempt' : ℕ → ℕ → Attempt) (words' : ℕ → ℕ → ℕ → ℕ) where
   pub record StatusMoves : Type 0 where
     pub in_range : StatusInRange t
     pub number : (b.status p).number ≤ t.number
@@ -35,7 +35,12 @@ module _ (sound : ℕ → Cells → Type 0) (z : Size) (b : Board) (h : Past) (i
     pub once : t.number ≡ (b.status p).number → IsOpen t.stage → IsOpen (b.status p).stage
     pub attempts : (q a : ℕ) → a ≤ (b.status q).number → attempt' q a ≡ h.attempt q a
     pub formed : (q a : ℕ) → IsFormed z.slots (attempt' q a)
-    pub described : (IsIdle t.stage → ⊥) → Describes z.slots (attempt' p t.number) (b.word p)
+    pub words_stay : (q a : ℕ) → a ≤ (b.status q).number → (place : ℕ) → words' q a place ≡ h.words q a place
+    pub described : (q a : ℕ) → Describes z.slots (attempt' q a) (words' q a)
+    pub written : (IsIdle t.stage → ⊥) → (place : ℕ) → place < descriptor_words z.slots → b.word p place ≡ words' p t.number place
+    -- an attempt that is present and uncleared afterwards was so before, or is new; and another pass's stays what it was
+    pub uncleared : t.number ≡ (b.status p).number → (IsIdle t.stage → ⊥) → IsIdle (b.status p).stage → ⊥
+    pub foreign : p ≢ id → (t.number ≡ (b.status p).number) × (IsIdle t.stage → ⊥) × (IsIdle (b.status p).stage → ⊥)
     -- only the words that hold the reference change their plain value, and versions rise
     pub versions : (n : ℕ) → h.plain n Version ≤ plain' n Version
     pub others : (n : ℕ) (f : Field) → b.cell n f ≢ Exchange p (b.status p).number → plain' n f ≡ h.plain n f
@@ -55,7 +60,7 @@ module _ (sound : ℕ → Cells → Type 0) (z : Size) (b : Board) (h : Past) (i
   b' = with_status b p t
 
   abbrev h' : Past
-  h' = with_values h cells' plain' attempt'
+  h' = with_values h cells' plain' attempt' words'
 
   module _ (s : Shared sound z b h) (m : StatusMoves) where
     -- a fact on the new statuses: of the one that changed, and of the others
@@ -166,17 +171,17 @@ module _ (sound : ℕ → Cells → Type 0) (z : Size) (b : Board) (h : Past) (i
     status_shared =
         let statuses : (q : ℕ) → StatusInRange (b'.status q) = λ q. on_status (λ _ u. StatusInRange u) q m.in_range
         (λ _. s.statuses q) in
-        let described : (q : ℕ) → (IsIdle (b'.status q).stage → ⊥)
-        → Describes z.slots (attempt' q (b'.status q).number) (b.word q) =
-        λ q. on_status (λ r u. (IsIdle u.stage → ⊥)
-        → Describes z.slots (attempt' r u.number) (b.word r)) q m.described
-        (λ _ busy. subst (λ (y : Attempt). Describes z.slots y (b.word q))
-        (sym (m.attempts q (b.status q).number (omega arith))) (s.described q busy)) in
+        let described = m.described in
+        let written : (q : ℕ) → (IsIdle (b'.status q).stage → ⊥) → (place : ℕ) → place < descriptor_words z.slots
+        → b.word q place ≡ words' q (b'.status q).number place =
+        λ q. on_status (λ r u. (IsIdle u.stage → ⊥) → (place : ℕ) → place < descriptor_words z.slots
+        → b.word r place ≡ words' r u.number place) q m.written
+        (λ _ busy place lt. s.written q busy place lt ∙ sym (m.words_stay q (b.status q).number (omega arith) place)) in
         let each_cell : (n : ℕ) (f : Field)
         → CellOk z.seats b'.status attempt' h.placing h.course (plain' n f) n f
         (b.cell n f) = λ n f. cell_still n f (b.cell n f) refl (s.each_cell n f) in
         let formed = m.formed in let sound_now = m.sound_now in let tied = m.tied in
-        assumption (statuses, described, each_cell, placed_still, formed, sound_now, tied, s)
+        assumption (statuses, described, written, each_cell, placed_still, formed, sound_now, tied, s)
 
     pub status_grows : Grows b h b' h'
     status_grows = record {
@@ -189,19 +194,37 @@ module _ (sound : ℕ → Cells → Type 0) (z : Size) (b : Board) (h : Past) (i
       courses = λ q k. omega arith;
       placings = λ q k c. refl;
       descriptors = λ q k c e. (e, λ place. refl);
+      clock = omega arith;
+      words = m.words_stay;
+      written = λ q a. on_status (λ r u. a ≤ (b.status r).number → u.number ≡ a → (IsIdle u.stage → ⊥)
+          → ((b.status r).number ≡ a) × (IsIdle (b.status r).stage → ⊥) × ((place : ℕ) → b.word r place ≡ b.word r place)) q
+          (λ le e busy. let up = m.number in let same : t.number ≡ (b.status p).number = omega arith in
+          (sym same ∙ e, m.uncleared same busy, λ place. refl))
+          (λ _ le e busy. (e, busy, λ place. refl));
+    }
+
+    status_tries : (j : ℕ) → j ≢ id → LeavesTries b b' j
+    status_tries j ne = record {
+      number = on_status (λ r u. r ≢ id → u.number ≡ (b.status r).number) j (λ other. (m.foreign other).0) (λ _ _. refl) ne;
+      idle = on_status (λ r u. r ≢ id → IsIdle (b.status r).stage → IsIdle u.stage) j
+          (λ other i. absurd ((m.foreign other).2 i)) (λ _ _ i. i) ne;
+      busy = on_status (λ r u. r ≢ id → IsIdle u.stage → IsIdle (b.status r).stage) j
+          (λ other i. absurd ((m.foreign other).1 i)) (λ _ _ i. i) ne;
+      words = λ place. refl;
     }
 
     -- what a step on this status owes the rule, with its own view v afterwards u
     pub status_moved : (v u : View) (more : List Note)
         → (u.live ≡ v.live) × (u.seat ≡ v.seat) × (u.last ≡ v.last) × (u.rest ≡ v.rest) → u.notes ≡ more ++ v.notes
-        → Own z b.install h.course id u
+        → Own z b.install h.course id u → (u.posted ≡ false → (h.posted ≡ false) × OwnTries z.slots b' id u.attempt)
         → AllNotes (NoteHolds z b' h') more → Moves sound z b h id v b' h' u more
-    status_moved v u more same notes own noted = record {
+    status_moved v u more same notes own tries noted = record {
       same = same;
       notes = notes;
       grows = status_grows;
-      leaves = record { count = refl; lives = λ j. refl; install = λ j ne place. refl; unplaced = λ j ne k e. e; absent = λ j ne k e. e };
+      leaves = record { count = refl; lives = λ j. refl; install = λ j ne place. refl; unplaced = λ j ne k e. e; absent = λ j ne k e. e; posted = refl; tries = status_tries };
       shared = status_shared;
       own = own;
+      tries = tries;
       noted = noted;
     }

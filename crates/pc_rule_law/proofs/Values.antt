@@ -10,6 +10,7 @@ use Rattle.pc_rule_law.specs.Past.{Past, change, Describes}
 use Rattle.pc_rule_law.specs.Stages.{IsIdle, value_by}
 use Rattle.pc_rule_law.specs.Rule.{Standing, Holding, CellOk, Shared}
 use Rattle.pc_rule_law.specs.Values.{IsPlainValue}
+use Rattle.pc_rule_law.proofs.Descriptors.{described_now}
 use Rattle.pc_rule_law.proofs.Lists.{below_length, element_at}
 use Rattle.pc_rule_law.proofs.Places.{one_word}
 
@@ -27,7 +28,7 @@ module _ (sound : ℕ → Cells → Type 0) (z : Size) (b : Board) (h : Past) (s
   of_exchange : (n : ℕ) (f : Field) (p a : ℕ) → Holding z.seats b.status h.attempt (h.plain n f) n f p a
       → IsPlainValue b n f (Exchange p a) (h.plain n f)
   of_exchange n f p a ho = let d : Describes z.slots (h.attempt p a) (b.word p) = subst
-      (λ (c : ℕ). Describes z.slots (h.attempt p c) (b.word p)) ho.present (s.described p ho.uncleared) in
+      (λ (c : ℕ). Describes z.slots (h.attempt p c) (b.word p)) ho.present (described_now sound z b h s p ho.uncleared) in
       let l = ho.listed in let x = change n f l.0 l.1 in let i = l.2.0 in let words = d.each_change i x l.2.1 in
       let below : i < length (h.attempt p a).changes = below_length (h.attempt p a).changes i x l.2.1 in (
         ho.present,
@@ -76,7 +77,7 @@ module _ (sound : ℕ → Cells → Type 0) (z : Size) (b : Board) (h : Past) (s
       → i < b.word p 1 → j < b.word p 1 → b.word p (3 + 3 * i) ≡ place_number n f
       → b.word p (3 + 3 * j) ≡ place_number n f → i ≡ j
   one_entry n f p a i j ho below_i below_j at_i at_j = let d : Describes z.slots (h.attempt p a) (b.word p) = subst
-      (λ (c : ℕ). Describes z.slots (h.attempt p c) (b.word p)) ho.present (s.described p ho.uncleared) in
+      (λ (c : ℕ). Describes z.slots (h.attempt p c) (b.word p)) ho.present (described_now sound z b h s p ho.uncleared) in
       let es = (h.attempt p a).changes in
       let x = element_at es i (subst (λ (c : ℕ). i < c) d.changes below_i) in
       let y = element_at es j (subst (λ (c : ℕ). j < c) d.changes below_j) in

@@ -1,7 +1,7 @@
 -- One word of a node changes: what the row that changes it shows, and that this is all the rule asks. An install is
 -- put into the word, or taken away, or a reference is replaced; statuses, attempts, descriptors and plain values
 -- stay.
-use Rattle.std.proofs.Common.{◌≡◌, ◌≢◌, ℕ, ◌+◌, ◌≤◌, true, List, ◌++◌, refl, sym, ap, ap₂, ◌∙◌, subst, ◌⊎◌, ⊎_elim, arith}
+use Rattle.std.proofs.Common.{◌≡◌, ◌≢◌, ℕ, ◌+◌, ◌≤◌, true, false, List, ◌++◌, refl, sym, ap, ap₂, ◌∙◌, subst, ◌⊎◌, ⊎_elim, arith}
 use Rattle.pc_model.specs.declared.cell.Field.{Field}
 use Rattle.pc_model.specs.Cells.{Cells}
 use Rattle.pc_words.specs.declared.word.WordKind.{WordKind}
@@ -11,7 +11,7 @@ use Rattle.pc_rule_law.specs.Board.{Size, Board, put_cell}
 use Rattle.pc_rule_law.specs.Past.{Placing, Past}
 use Rattle.pc_rule_law.specs.Stages.{IsUnmade, IsUndecided, DecidedBelow}
 use Rattle.pc_rule_law.specs.Views.{Note, View, IsClean, NoteHolds, AllNotes}
-use Rattle.pc_rule_law.specs.Rule.{Standing, CellOk, Placed, Own, Shared}
+use Rattle.pc_rule_law.specs.Rule.{Standing, CellOk, Placed, Own, OwnTries, Shared}
 use Rattle.pc_rule_law.proofs.Updates.{put_cell-here, put_cell-else, at_put_cell}
 use Rattle.pc_rule_law.proofs.Stages.{decided_not_undecided}
 use Rattle.pc_rule_law.proofs.Keeping.{Grows, Leaves, Moves}
@@ -196,6 +196,9 @@ module _ (z : Size) (b : Board) (h : Past) (id n : ℕ) (f : Field) (c : WordKin
           (λ begun. let e : h.course q k ≡ 0 = begun.0 in omega arith) other) (w.each q k);
       placings = placing_before;
       descriptors = λ q k some e. (e, λ place. refl);
+      clock = omega arith;
+      words = λ p a le place. refl;
+      written = λ p a le e busy. (e, busy, λ place. refl);
     }
 
     pub word_leaves : Leaves id b h b' h'
@@ -208,11 +211,23 @@ module _ (z : Size) (b : Board) (h : Past) (id n : ℕ) (f : Field) (c : WordKin
           (w.each j k);
       absent = λ j ne k no. ⊎_elim (λ kept. λ e. no (sym kept.0 ∙ e)) (λ other. ⊎_elim
           (λ ended. absurd (no ended.0)) (λ begun. absurd (ne begun.1)) other) (w.each j k);
+      posted = refl;
+      tries = λ j ne. record { number = refl; idle = λ i. i; busy = λ i. i; words = λ place. refl };
     }
 
     -- what a step on this word owes the rule, with its own view v afterwards u
     pub word_moved : (v u : View) (more : List Note)
         → (u.live ≡ v.live) × (u.seat ≡ v.seat) × (u.last ≡ v.last) × (u.rest ≡ v.rest) → u.notes ≡ more ++ v.notes
-        → Own z b.install course' id u
+        → Own z b.install course' id u → (u.posted ≡ false → (h.posted ≡ false) × OwnTries z.slots b id u.attempt)
         → AllNotes (NoteHolds z b' h') more → Moves sound z b h id v b' h' u more
-    word_moved v u more same notes own noted = record { same = same; notes = notes; grows = word_grows; leaves = word_leaves; shared = word_shared; own = own; noted = noted }
+    word_moved v u more same notes own tries noted = record {
+      same = same;
+      notes = notes;
+      grows = word_grows;
+      leaves = word_leaves;
+      shared = word_shared;
+      own = own;
+      tries = λ no. let t = tries no in
+          (t.0, record { number = t.1.number; resting = t.1.resting; running = t.1.running; words = t.1.words });
+      noted = noted;
+    }

@@ -133,12 +133,13 @@ given_formed (suc (suc (suc (suc p)))) = record {
 }
 
 -- such a board may open
-opens_with_four : MayOpen (λ slots c. Unit {0}) four opening_fields given
+opens_with_four : MayOpen (λ slots c. Unit {0}) four opening_fields true given
 opens_with_four = record {
   seats = (omega arith, omega arith);
   sound_cells = tt;
   small = small_fields;
   attempt = omega arith;
   few = omega arith;
+  none = λ no. absurd (cc);
   formed = given_formed;
 }

@@ -1,13 +1,13 @@
--- What a pass has to know before it makes each kind of step of an install. A condition is a fact on the pass's own
+-- What a pass has to know before it makes each kind of step. A condition is a fact on the pass's own
 -- view.
-use Rattle.std.specs.Prelude.{◌≡◌, ◌⊎◌, ℕ, zero, suc, ◌^◌, ◌<◌, true}
+use Rattle.std.specs.Prelude.{◌≡◌, ◌⊎◌, ℕ, zero, suc, ◌+◌, ◌*◌, ◌^◌, ◌<◌, true, false}
 use Rattle.pc_model.specs.declared.cell.Field.{Field}
 use Rattle.pc_words.specs.declared.word.WordKind.{WordKind}
 use Rattle.pc_words.specs.declared.word.WordKind.TheVariants.{Plain, Install, Exchange}
 use Rattle.pc_words.specs.Words.{raw}
-use Rattle.pc_rule_law.specs.Board.{Size, place_number}
-use Rattle.pc_rule_law.specs.Past.{Has, change}
-use Rattle.pc_rule_law.specs.Views.{entry, install_word, early, removed, decided_below, View, IsAttempt}
+use Rattle.pc_rule_law.specs.Board.{Size, place_number, descriptor_words}
+use Rattle.pc_rule_law.specs.Past.{Has, Attempt, change, Describes, IsFormed}
+use Rattle.pc_rule_law.specs.Views.{entry, install_word, early, removed, decided_below, attempt_word, word_in, View, IsAttempt}
 
 -- no install of the pass stands anywhere
 abbrev pub IsFree : View → Type 0
@@ -18,10 +18,36 @@ abbrev pub CanStore : View → ℕ → ℕ → Type 0
 CanStore v zero x = IsFree v × (v.install.number < x)
 CanStore v (suc place) x = v.fresh ≡ true
 
--- the change of this word from x is known to be one of attempt a of pass p. From the exchanges on it is known by the
--- words of the descriptor
+-- a word of the descriptor of attempt a of pass p is known: it was read, or it is the pass's own, which is published
+abbrev pub KnowsWord : View → ℕ → ℕ → ℕ → ℕ → Type 0
+KnowsWord v p a place x = Has v.notes (attempt_word p a place x)
+    ⊎ ((p ≡ v.seat) × (a ≡ v.attempt.number) × (v.posted ≡ false) × (v.attempt.published ≡ true)
+    × (place < descriptor_words v.size.slots) × (word_in v.attempt.words place ≡ x))
+
+-- the words of the i-th change of an attempt are known, and that it has so many
+pub record KnowsChange (v : View) (p a i n : ℕ) (f : Field) (old new : ℕ) : Type 0 where
+  pub count : ℕ
+  pub below : i < count
+  pub known_count : KnowsWord v p a 1 count
+  pub known_place : KnowsWord v p a (3 + 3 * i) (place_number n f)
+  pub known_old : KnowsWord v p a (4 + 3 * i) old
+  pub known_new : KnowsWord v p a (5 + 3 * i) new
+
+-- the change of this word from x is known to be one of attempt a of pass p: by the words of the descriptor, or since it
+-- was given at the opening
 abbrev pub KnowsEntry : View → ℕ → ℕ → ℕ → Field → ℕ → Type 0
-KnowsEntry v p a n f x = (new : ℕ) × Has v.notes (entry p a (change n f x new))
+KnowsEntry v p a n f x = (new : ℕ) × (Has v.notes (entry p a (change n f x new)) ⊎ ((i : ℕ) × KnowsChange v p a i n f x new))
+
+-- a store to a word of the own descriptor: while nothing is published
+abbrev pub CanWrite : View → Type 0
+CanWrite v = (v.posted ≡ false) × (v.attempt.published ≡ false)
+
+-- the own next attempt, whose words are stored, may be published
+pub record CanPublish (v : View) (e : Attempt) : Type 0 where
+  pub may : CanWrite v
+  pub number : v.attempt.number + 1 < 2 ^ 28
+  pub formed : IsFormed v.size.slots e
+  pub words : Describes v.size.slots e (word_in v.attempt.words)
 
 -- the own install in place of the plain value x: its number is fresh, and its descriptor names the exchange, the word
 -- and x

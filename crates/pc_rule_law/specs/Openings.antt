@@ -1,6 +1,6 @@
 -- The board that passes find when it opens. For the time being each pass may be given one exchange then; once passes
 -- publish exchanges of their own, what is given here goes.
-use Rattle.std.specs.Prelude.{ℕ, zero, suc, ◌<◌, ◌≤◌, Bool, true, false, List, [], ◌∷◌, ◌++◌, length}
+use Rattle.std.specs.Prelude.{◌≡◌, ℕ, zero, suc, ◌<◌, ◌≤◌, Bool, true, false, List, [], ◌∷◌, ◌++◌, length}
 use Rattle.pc_model.specs.declared.cell.Field.{Field}
 use Rattle.pc_model.specs.Cells.{Cells}
 use Rattle.pc_model.specs.Exchanges.{Changed}
@@ -57,6 +57,12 @@ descriptor_word changes (suc zero) = length changes
 descriptor_word changes (suc (suc zero)) = 0
 descriptor_word changes (suc (suc (suc place))) = changes_word changes place
 
+-- the words of the descriptor of each attempt
+abbrev pub opening_words : List Posted → ℕ → ℕ → ℕ → ℕ
+opening_words posted p zero = descriptor_word []
+opening_words posted p (suc zero) = descriptor_word (opening_changes posted p)
+opening_words posted p (suc (suc a)) = descriptor_word []
+
 -- what every pass knows from the opening on: the changes of each exchange that was given
 abbrev pub entries_of : ℕ → List Changed → List Note
 entries_of p [] = []
@@ -78,10 +84,11 @@ opening_board z cells posted = record {
 }
 
 -- what is asked of an opening: its size, sound cells whose numbers fit a word, and exchanges that fit a descriptor
-pub record MayOpen (sound : ℕ → Cells → Type 0) (z : Size) (cells : Cells) (posted : List Posted) : Type 0 where
+pub record MayOpen (sound : ℕ → Cells → Type 0) (z : Size) (cells : Cells) (given : Bool) (posted : List Posted) : Type 0 where
   pub seats : (0 < z.seats) × (z.seats ≤ 32)
   pub sound_cells : sound z.slots cells
   pub small : (n : ℕ) (f : Field) → InRange (Plain (cells n f))
   pub attempt : z.starts.attempt < 268435456
   pub few : length posted ≤ z.seats
+  pub none : given ≡ false → posted ≡ []
   pub formed : (p : ℕ) → IsFormed z.slots (attempt_of (opening_changes posted p))

@@ -48,6 +48,10 @@ pub record Past : Type 0 where
   -- how many passes were made, and which of them weren't joined to another
   pub count : ℕ
   pub live : ℕ → Bool
+  -- the words of the descriptor of each attempt
+  pub words : ℕ → ℕ → ℕ → ℕ
+  -- whether passes were given exchanges at the opening
+  pub posted : Bool
 
 -- the four words of the descriptor of an install: its number, the exchange, the word, and the word's old value
 abbrev pub placing_word : Placing → ℕ → ℕ → ℕ

@@ -1,4 +1,4 @@
--- What each kind of step of an install tells the pass that makes it.
+-- What each kind of step tells the pass that makes it.
 use Rattle.std.specs.Prelude.{◌≡◌, ◌≢◌, ℕ, zero, suc, ◌+◌, ◌<◌, ◌≤◌, Bool, true, false, List, [], ◌∷◌, ◌++◌}
 use Rattle.atomic_table.specs.Table.{Me, Step}
 use Rattle.pc_model.specs.declared.cell.Field.{Field}
@@ -10,10 +10,10 @@ use Rattle.pc_words.specs.declared.word.WordKind.TheVariants.{Plain, Install, Ex
 use Rattle.pc_words.specs.declared.status.Status.{Status}
 use Rattle.pc_words.specs.Words.{raw, kind, IsWord}
 use Rattle.pc_words.specs.Statuses.{unpacked, IsStatus}
-use Rattle.pc_rule_law.specs.Board.{own_status, own_install, Place, at_own, at_cell, address, Inside}
+use Rattle.pc_rule_law.specs.Board.{own_status, own_install, own_word, Place, at_clock, at_own, at_cell, address, Inside}
 use Rattle.pc_rule_law.specs.Past.{Has}
-use Rattle.pc_rule_law.specs.Stages.{IsOpen, decided_by}
-use Rattle.pc_rule_law.specs.Views.{Note, version, entry, placed, loaded, install_word, early, removed, decided_below, held, OwnInstall, View, NoteInRange, AllNotes, with_notes}
+use Rattle.pc_rule_law.specs.Stages.{IsIdle, IsOpen, decided_by}
+use Rattle.pc_rule_law.specs.Views.{Note, version, entry, placed, loaded, install_word, early, removed, decided_below, held, clock_at, word_loaded, attempt_word, OwnInstall, View, NoteInRange, AllNotes, with_notes}
 
 abbrev pub Mine : Type 0
 Mine = Me Bool View
@@ -141,7 +141,8 @@ abbrev pub places_install : Step Bool → Mine → ℕ → Mine → Type 0
 places_install st m r m' = Tells m st.word (PlacedInstall m.0 st.first r) m'
 
 -- ---- a load of a status: which attempts are decided; and where this one is undecided, the installs that are known to be for
--- it were placed while it was. Its number is at least each that the pass knows of
+-- it were placed while it was. Where it isn't cleared, what was loaded of its descriptor stands for good. Its number is at
+-- least each that the pass knows of, and of the own status it is the own one
 
 pub record StatusLoaded (v : View) (p : ℕ) (s : Status) (w : View) : Type 0 where
   pub later : IsLater v w
@@ -151,6 +152,11 @@ pub record StatusLoaded (v : View) (p : ℕ) (s : Status) (w : View) : Type 0 wh
   pub installs_below : (q k a : ℕ) → Has v.notes (install_word q k 1 (raw (Exchange p a))) → a ≤ s.number
   pub entries_below : (a : ℕ) (x : Change) → Has v.notes (entry p a x) → a ≤ s.number
   pub held_below : (a n : ℕ) (f : Field) → Has v.notes (held p a n f) → a ≤ s.number
+  pub settles : (IsIdle s.stage → ⊥) → (place x : ℕ) → Has v.notes (word_loaded p s.number place x)
+      → Has w.notes (attempt_word p s.number place x)
+  pub words_below : (a place x : ℕ) → Has v.notes (attempt_word p a place x) → a ≤ s.number
+  pub own : p ≡ v.seat → v.posted ≡ false → (s.number ≡ v.attempt.number)
+      × (v.attempt.published ≡ false → IsIdle s.stage) × (v.attempt.published ≡ true → IsIdle s.stage → ⊥)
 
 abbrev pub LoadedStatus : View → ℕ → View → Place → Type 0
 LoadedStatus v r w (at_own p own_status) = IsStatus r × StatusLoaded v p (unpacked r) w
@@ -178,3 +184,53 @@ TookInstall v old new r w _ = Unit {0}
 
 abbrev pub takes_install : Step Bool → Mine → ℕ → Mine → Type 0
 takes_install st m r m' = Tells m st.word (TookInstall m.0 st.first st.second r) m'
+
+-- ---- a load of the clock, which never falls
+
+abbrev pub ClockLoaded : View → ℕ → View → Type 0
+ClockLoaded v r w = (w ≡ with_notes v (clock_at r ∷ [])) × ((c : ℕ) → Has v.notes (clock_at c) → c ≤ r)
+
+abbrev pub LoadedClock : View → ℕ → View → Place → Type 0
+LoadedClock v r w at_clock = ClockLoaded v r w
+LoadedClock v r w _ = Unit {0}
+
+abbrev pub loads_clock : Step Bool → Mine → ℕ → Mine → Type 0
+loads_clock st m r m' = Tells m st.word (LoadedClock m.0 r) m'
+
+-- ---- a store to a word of the own descriptor
+
+abbrev pub after_write : View → ℕ → ℕ → View
+after_write v place x = record v { attempt = record v.attempt { words = (place, x) ∷ v.attempt.words } }
+
+abbrev pub Wrote : View → ℕ → View → Place → Type 0
+Wrote v x w (at_own i (own_word place)) = i ≡ v.seat → w ≡ after_write v place x
+Wrote v x w _ = Unit {0}
+
+abbrev pub writes : Step Bool → Mine → ℕ → Mine → Type 0
+writes st m r m' = Tells m st.word (Wrote m.0 st.first) m'
+
+-- ---- the own next attempt is published
+
+abbrev pub after_publish : View → View
+after_publish v = record v { attempt = record v.attempt { number = v.attempt.number + 1; published = true } }
+
+abbrev pub Published : View → View → Place → Type 0
+Published v w (at_own i own_status) = i ≡ v.seat → w ≡ after_publish v
+Published v w _ = Unit {0}
+
+abbrev pub publishes : Step Bool → Mine → ℕ → Mine → Type 0
+publishes st m r m' = Tells m st.word (Published m.0) m'
+
+-- ---- a load of a word of a descriptor: of each attempt of that pass that the pass met, the word while that is the present one
+-- and isn't cleared
+
+pub record DescriptorLoaded (v : View) (p place r : ℕ) (w : View) : Type 0 where
+  pub later : IsLater v w
+  pub loads : (a n : ℕ) (f : Field) → Has v.notes (held p a n f) → Has w.notes (word_loaded p a place r)
+
+abbrev pub LoadedWord : View → ℕ → View → Place → Type 0
+LoadedWord v r w (at_own p (own_word place)) = DescriptorLoaded v p place r w
+LoadedWord v r w _ = Unit {0}
+
+abbrev pub loads_word : Step Bool → Mine → ℕ → Mine → Type 0
+loads_word st m r m' = Tells m st.word (LoadedWord m.0 r) m'

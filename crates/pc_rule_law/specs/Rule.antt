@@ -1,6 +1,6 @@
 -- The rule of the board, by topics. Each is a fact on one cell, on one install, on one view, or on what all share;
 -- none speaks of two views, so what passes must agree on lies in the past.
-use Rattle.std.specs.Prelude.{◌≡◌, ◌≢◌, ℕ, ◌+◌, ◌^◌, ◌<◌, ◌≤◌, Bool, true, false, List, length}
+use Rattle.std.specs.Prelude.{◌≡◌, ◌≢◌, ℕ, ◌+◌, ◌^◌, ◌<◌, ◌≤◌, Bool, true, false, List, [], length}
 use mathlib.Core.Option.{some}
 use lib.ListN.{get_elem?}
 use Rattle.atomic_table.specs.Table.{State}
@@ -12,10 +12,10 @@ use Rattle.pc_words.specs.declared.word.WordKind.TheVariants.{Plain, Install, Ex
 use Rattle.pc_words.specs.declared.status.Status.{Status}
 use Rattle.pc_words.specs.Words.{InRange}
 use Rattle.pc_words.specs.Statuses.{StatusInRange}
-use Rattle.pc_rule_law.specs.Board.{Size, Board, Represents}
+use Rattle.pc_rule_law.specs.Board.{Size, Board, Represents, descriptor_words}
 use Rattle.pc_rule_law.specs.Past.{Has, Attempt, Placing, Past, change, placing_word, Describes, IsFormed}
 use Rattle.pc_rule_law.specs.Stages.{IsIdle, IsUnmade, value_by, IsUndecided, DecidedBelow}
-use Rattle.pc_rule_law.specs.Views.{OwnInstall, own_install_word, View, NoteHolds, AllNotes}
+use Rattle.pc_rule_law.specs.Views.{OwnInstall, own_install_word, OwnAttempt, word_in, View, NoteHolds, AllNotes}
 
 -- what holds of each view, by its seat
 abbrev pub Each : {V : Type 0} → List V → (ℕ → V → Type 0) → Type 0
@@ -79,6 +79,13 @@ pub record Own (z : Size) (install course : ℕ → ℕ → ℕ) (j : ℕ) (v : 
   pub ahead : (k : ℕ) → v.install.number < k → course j k ≡ 0
   pub unplaced : v.fresh ≡ true → course j v.install.number ≡ 0
 
+-- what a view says of the attempts of its own seat j, where passes were given none at the opening
+pub record OwnTries (slots : ℕ) (b : Board) (j : ℕ) (own : OwnAttempt) : Type 0 where
+  pub number : (b.status j).number ≡ own.number
+  pub resting : own.published ≡ false → IsIdle (b.status j).stage
+  pub running : own.published ≡ true → IsIdle (b.status j).stage → ⊥
+  pub words : (place : ℕ) → place < descriptor_words slots → b.word j place ≡ word_in own.words place
+
 -- the pass that was made last knows how many there are, and which it has taken in
 pub record Counted (course : ℕ → ℕ → ℕ) (count : ℕ) (live : ℕ → Bool) (j : ℕ) (v : View) : Type 0 where
   pub live_is : v.live ≡ live j
@@ -90,6 +97,10 @@ pub record Counted (course : ℕ → ℕ → ℕ) (count : ℕ) (live : ℕ → 
 abbrev pub opening_install : Size → OwnInstall
 opening_install z = record { number = z.starts.install; op = 0; place = 0; old = 0 }
 
+-- no attempt was made yet, and no word of a descriptor was stored
+abbrev pub opening_own : Size → OwnAttempt
+opening_own z = record { number = z.starts.attempt; published = false; words = [] }
+
 -- a pass that isn't made yet has placed nothing
 pub record Blank (z : Size) (install course : ℕ → ℕ → ℕ) (live : ℕ → Bool) (j : ℕ) : Type 0 where
   pub words : (place : ℕ) → place < 4 → install j place ≡ own_install_word (opening_install z) place
@@ -99,6 +110,7 @@ pub record Blank (z : Size) (install course : ℕ → ℕ → ℕ) (live : ℕ �
 -- what holds of a view
 pub record Known (z : Size) (b : Board) (h : Past) (j : ℕ) (v : View) : Type 0 where
   pub own : v.live ≡ true → Own z b.install h.course j v
+  pub tries : v.live ≡ true → v.posted ≡ false → (h.posted ≡ false) × OwnTries z.slots b j v.attempt
   pub counted : Counted h.course h.count h.live j v
   pub noted : AllNotes (NoteHolds z b h) v.notes
 
@@ -111,9 +123,10 @@ module _ (sound : ℕ → Cells → Type 0) (z : Size) where
     pub ranges : (n : ℕ) (f : Field) → InRange (b.cell n f)
     pub statuses : (p : ℕ) → StatusInRange (b.status p)
     pub formed : (p a : ℕ) → IsFormed z.slots (h.attempt p a)
-    -- until an attempt is cleared, its pass's descriptor is that of the attempt
-    pub described : (p : ℕ) → (IsIdle (b.status p).stage → ⊥)
-        → Describes z.slots (h.attempt p (b.status p).number) (b.word p)
+    -- each attempt has its words, and until it is cleared, they stand in its pass's descriptor
+    pub described : (p a : ℕ) → Describes z.slots (h.attempt p a) (h.words p a)
+    pub written : (p : ℕ) → (IsIdle (b.status p).stage → ⊥) → (place : ℕ) → place < descriptor_words z.slots
+        → b.word p place ≡ h.words p (b.status p).number place
     pub each_cell : (n : ℕ) (f : Field)
         → CellOk z.seats b.status h.attempt h.placing h.course (h.plain n f) n f (b.cell n f)
     pub installs : (q k : ℕ) → 1 ≤ h.course q k
@@ -124,6 +137,7 @@ module _ (sound : ℕ → Cells → Type 0) (z : Size) where
     pub room : h.count ≤ z.seats
     pub counted : length views ≡ h.count
     pub blank : (j : ℕ) → h.count ≤ j → j < z.seats → Blank z b.install h.course h.live j
+    pub untried : (j : ℕ) → h.count ≤ j → j < z.seats → h.posted ≡ false → OwnTries z.slots b j (opening_own z)
     pub shared : Shared b h
     pub each_view : Each views (Known z b h)
 

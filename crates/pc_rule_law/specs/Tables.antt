@@ -20,7 +20,7 @@ abbrev pub note_of : Given → Note
 note_of g = entry g.seat 1 (change g.node g.field g.old g.new)
 
 abbrev pub first_view : Opening → View
-first_view o = new_view (size_of o) 0 (map note_of o.given.items)
+first_view o = new_view (size_of o) 0 o.posted (map note_of o.given.items)
 
 -- cells that are sound are those of the opening
 abbrev pub KeepsOpening : (ℕ → Cells → Type 0) → Size → Type 0

@@ -1,6 +1,6 @@
 -- What a pass knows: its view, which only its own steps change, and the notes in it. A note says what the pass has
 -- seen; it is true between any two steps, whatever others do.
-use Rattle.std.specs.Prelude.{◌≡◌, ◌≢◌, ℕ, zero, suc, ◌+◌, ◌^◌, ◌<◌, ◌≤◌, Bool, true, List, ◌++◌}
+use Rattle.std.specs.Prelude.{◌≡◌, ◌≢◌, ℕ, zero, suc, ◌+◌, ◌^◌, ◌<◌, ◌≤◌, ◌==◌, if◌then◌else◌, Bool, true, List, [], ◌∷◌, ◌++◌}
 use Rattle.pc_model.specs.declared.cell.Field.{Field}
 use Rattle.pc_model.specs.declared.cell.Field.TheVariants.{Version}
 use Rattle.pc_model.specs.Cells.{Cells, IsNode}
@@ -9,9 +9,9 @@ use Rattle.pc_words.specs.declared.word.WordKind.{WordKind}
 use Rattle.pc_words.specs.declared.word.WordKind.TheVariants.{Plain, Install, Exchange}
 use Rattle.pc_words.specs.declared.status.Status.{Status}
 use Rattle.pc_words.specs.Words.{raw}
-use Rattle.pc_rule_law.specs.Board.{Size, Board, place_number}
+use Rattle.pc_rule_law.specs.Board.{Size, Board, place_number, descriptor_words}
 use Rattle.pc_rule_law.specs.Past.{Has, Attempt, Placing, Past, change, placing_word}
-use Rattle.pc_rule_law.specs.Stages.{IsUndecided, DecidedBelow}
+use Rattle.pc_rule_law.specs.Stages.{IsIdle, IsUndecided, DecidedBelow}
 
 pub data Note : Type 0 where
   -- the version of a node is at least this
@@ -34,6 +34,12 @@ pub data Note : Type 0 where
   held : ℕ → ℕ → ℕ → Field → Note
   -- no reference to attempt a of pass p, which is decided, is in this word or will be
   clean : ℕ → ℕ → ℕ → Field → Note
+  -- the clock has come so far
+  clock_at : ℕ → Note
+  -- a word of the descriptor of pass p, while attempt a is the present one and isn't cleared
+  word_loaded : ℕ → ℕ → ℕ → ℕ → Note
+  -- a word of the descriptor of attempt a of pass p
+  attempt_word : ℕ → ℕ → ℕ → ℕ → Note
 
 -- what the pass's own install descriptor holds
 pub record OwnInstall : Type 0 where
@@ -48,6 +54,18 @@ own_install_word d (suc zero) = d.op
 own_install_word d (suc (suc zero)) = d.place
 own_install_word d (suc (suc (suc place))) = d.old
 
+-- what the pass has of its attempts: the number of the last one, whether that is published and not cleared, and the words
+-- that it stored in its descriptor, each with its place, the last one first
+pub record OwnAttempt : Type 0 where
+  pub number : ℕ
+  pub published : Bool
+  pub words : List (ℕ × ℕ)
+
+-- the word at this place, by what was stored: 0 where nothing was
+abbrev pub word_in : List (ℕ × ℕ) → ℕ → ℕ
+word_in [] place = 0
+word_in (x ∷ words) place = if place == x.0 then x.1 else word_in words place
+
 pub record View : Type 0 where
   pub size : Size
   -- it wasn't joined to another
@@ -59,6 +77,9 @@ pub record View : Type 0 where
   pub install : OwnInstall
   -- no install was placed with the present number yet
   pub fresh : Bool
+  pub attempt : OwnAttempt
+  -- whether passes were given exchanges at the opening. Then nothing is published
+  pub posted : Bool
   pub notes : List Note
 
 -- no reference to this attempt stands in this word, and no install that may become one
@@ -72,8 +93,8 @@ abbrev pub HoldsEntry : List Changed → (ℕ → Field → ℕ) → ℕ → Fie
 HoldsEntry changes plain n f = (old : ℕ) × (new : ℕ) × Has changes (change n f old new)
     × (f ≡ Version → old ≤ plain n f)
 
-module _ (status : ℕ → Status) (cell : ℕ → Field → WordKind) (install : ℕ → ℕ → ℕ) (plain : Cells)
-    (attempt : ℕ → ℕ → Attempt) (placing : ℕ → ℕ → Placing) (course : ℕ → ℕ → ℕ) where
+module _ (clock : ℕ) (status : ℕ → Status) (cell : ℕ → Field → WordKind) (install word : ℕ → ℕ → ℕ) (plain : Cells)
+    (attempt : ℕ → ℕ → Attempt) (placing : ℕ → ℕ → Placing) (course : ℕ → ℕ → ℕ) (words : ℕ → ℕ → ℕ → ℕ) where
   abbrev pub IsTrueNote : Note → Type 0
   IsTrueNote (version n v) = v ≤ plain n Version
   IsTrueNote (entry p a x) = (a ≤ (status p).number) × Has (attempt p a).changes x
@@ -87,10 +108,14 @@ module _ (status : ℕ → Status) (cell : ℕ → Field → WordKind) (install 
   IsTrueNote (held p a n f) = (a ≤ (status p).number) × (IsUndecided status p a → cell n f ≡ Exchange p a)
       × HoldsEntry (attempt p a).changes plain n f
   IsTrueNote (clean p a n f) = DecidedBelow status p (a + 1) × IsClean placing p a (cell n f)
+  IsTrueNote (clock_at c) = c ≤ clock
+  IsTrueNote (word_loaded p a place x) = (a ≤ (status p).number)
+      × ((status p).number ≡ a → (IsIdle (status p).stage → ⊥) → word p place ≡ x)
+  IsTrueNote (attempt_word p a place x) = (a ≤ (status p).number) × (words p a place ≡ x)
 
 -- a note is true of a board and a past
 abbrev pub IsNoted : Board → Past → Note → Type 0
-IsNoted b h = IsTrueNote b.status b.cell b.install h.plain h.attempt h.placing h.course
+IsNoted b h = IsTrueNote b.clock b.status b.cell b.install b.word h.plain h.attempt h.placing h.course h.words
 
 -- the numbers of a word of an install's descriptor
 abbrev pub InstallWordInRange : Size → ℕ → ℕ → ℕ → Type 0
@@ -117,6 +142,9 @@ NoteInRange z (removed q k) = IsInstall z q k
 NoteInRange z (decided_below p m) = (p < z.seats) × (m ≤ 2 ^ 28)
 NoteInRange z (held p a n f) = IsAttempt z p a × IsNode z.slots n
 NoteInRange z (clean p a n f) = IsAttempt z p a × IsNode z.slots n
+NoteInRange z (clock_at c) = Unit {0}
+NoteInRange z (word_loaded p a place x) = IsAttempt z p a × (place < descriptor_words z.slots)
+NoteInRange z (attempt_word p a place x) = IsAttempt z p a × (place < descriptor_words z.slots)
 
 -- a note holds where it is true and its numbers are those of the board
 abbrev pub NoteHolds : Size → Board → Past → Note → Type 0

@@ -44,4 +44,6 @@ pub struct Opening {
     pub starts: Starts,
     /// The changes of the exchanges that passes are given.
     pub given: Vec<Given>,
+    /// Whether passes are given exchanges. Then nothing is published.
+    pub posted: bool,
 }
