@@ -1,5 +1,5 @@
 -- What is posted at an opening makes lawful attempts, and the slots of shares add up.
-use Rattle.std.proofs.Common.{◌≡◌, ℕ, zero, suc, ◌+◌, ◌≤◌, ◌<◌, ◌^◌, ◌==◌, Bool, true, false, if◌then◌else◌, List, [], ◌∷◌, length, map, drop, refl, sym, ap, ◌∙◌, subst, arith}
+use Rattle.std.proofs.Common.{◌≡◌, ℕ, zero, suc, ◌+◌, ◌≤◌, ◌<◌, ◌^◌, ◌==◌, Bool, true, false, not, eqb-true, eq-eqb, if◌then◌else◌, List, [], ◌∷◌, length, map, drop, refl, sym, ap, ◌∙◌, subst, arith}
 use mathlib.Core.Option.{some, some-injective, some-ne-none}
 use lib.ListN.{get_elem?}
 use Rattle.atomic_table.proofs.Lists.{drop_at}
@@ -77,3 +77,15 @@ small_cells version lt n Right = omega arith
 small_cells version lt n Parent = omega arith
 small_cells version lt n Height = omega arith
 small_cells version lt n Spare = omega arith
+
+-- whether passes are given exchanges is told by their number
+not_false : (c : Bool) → not c ≡ false → c ≡ true
+not_false true e = refl
+not_false false e = sym e
+
+pub none_given : (posted : List Posted) (c : Bool) → c ≡ (length posted == 0) → not c ≡ false → all_posted posted ≡ []
+none_given [] c e off = refl
+none_given (x ∷ xs) c e off = let n : suc (length xs) ≡ 0 = eqb-true (suc (length xs)) 0 (sym e ∙ not_false c off) in absurd (omega arith)
+
+pub given_none : (posted : List Posted) (c : Bool) → c ≡ (length posted == 0) → posted ≡ [] → not c ≡ false
+given_none posted c e is = ap not (e ∙ eq-eqb (length posted) 0 (ap length is))

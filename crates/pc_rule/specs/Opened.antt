@@ -15,7 +15,7 @@ use Rattle.pc_rule.specs.Recorded.{HasRoomFor}
 
 -- the view of the pass at a seat: it has made the next one, or is the last
 abbrev pub last_view : Opening → ℕ → View
-last_view o i = new_view (size_of o) i (map note_of o.given.items)
+last_view o i = new_view (size_of o) i o.posted (map note_of o.given.items)
 
 module _ {H : Type 0} {S : Ghosts H} where
   -- these passes have the seats from 0 on, none is the last one, and none recorded a call

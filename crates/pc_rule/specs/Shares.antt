@@ -1,11 +1,12 @@
 -- What is asked of the opening of a board, and what its passes are then and at the closing.
-use Rattle.std.specs.Prelude.{◌≡◌, ℕ, ◌+◌, ◌^◌, ◌<◌, ◌≤◌, true, List, [], ◌∷◌, length}
+use Rattle.std.specs.Prelude.{◌≡◌, ℕ, ◌+◌, ◌^◌, ◌<◌, ◌≤◌, true, false, List, [], ◌∷◌, length}
 use mathlib.Core.Option.{some}
 use lib.ListN.{get_elem?}
 use Rattle.pc_model.specs.declared.shape.Shape.{Ghosts}
 use Rattle.pc_model.specs.Cells.{IsEven}
 use Rattle.pc_rule_law.specs.declared.opening.Starts.{Starts}
 use Rattle.pc_rule_law.specs.Board.{Size}
+use Rattle.pc_rule_law.specs.Rule.{opening_own}
 use Rattle.pc_rule_law.specs.Views.{Note}
 use Rattle.pc_rule.specs.declared.board.Board.{Board}
 use Rattle.pc_rule.specs.declared.board.Pass.{Pass}
@@ -58,3 +59,7 @@ module _ {H : Type 0} {S : Ghosts H} where
   -- each pass has these notes and no others
   abbrev pub AllNoted : List (Pass H S) → List Note → Type 0
   AllNoted passes notes = (i : ℕ) (p : Pass H S) → get_elem? passes i ≡ some p → (view p).notes ≡ notes
+
+  -- each pass may publish: no exchange was given at the opening, it has made no attempt, and stored no word of its descriptor
+  abbrev pub NoneTried : List (Pass H S) → Type 0
+  NoneTried passes = (i : ℕ) (p : Pass H S) → get_elem? passes i ≡ some p → ((view p).posted ≡ false) × ((view p).attempt ≡ opening_own (view p).size)

@@ -35,7 +35,7 @@ impl<H: Shape> Board<H> {
         shares: &[Share],
     ) -> Result<(Board<H>, Pass<H>), AllocError>
         requires small { (opening.now.slots ≤ 61000) × (opening.now.seats ≤ 32) × (opening.now.starts.attempt < 2 ^ 28) × (opening.now.starts.version < 2 ^ 60) }
-        requires may { MayOpen (sound_cells H.form opening.now) (size_of opening.now) (opening_cells opening.now.starts.version) (all_posted posted.now) }
+        requires may { MayOpen (sound_cells H.form opening.now) (size_of opening.now) (opening_cells opening.now.starts.version) opening.now.posted (all_posted posted.now) }
         requires given { map note_of opening.now.given.items ≡ opening_notes 0 (all_posted posted.now) }
         requires shares { (length shares.now ≡ opening.now.seats) × (1 ≤ length shares.now) }
         ensures opened { IfOk result (λ r. (board_size r.0 ≡ size_of opening.now) × (r.0.shares.items ≡ shares.now) × IsPassOf r.0 r.1 × (view r.1 ≡ first_view opening.now)) }
@@ -61,6 +61,8 @@ impl<H: Shape> Board<H> {
             seat,
             index: 0,
             installs: opening.starts.install,
+            attempts: opening.starts.attempt,
+            published: false,
             share: shares[0],
             entries,
             shape: PhantomData,
@@ -90,6 +92,8 @@ impl<H: Shape> Board<H> {
             seat,
             index,
             installs: self.starts.install,
+            attempts: self.starts.attempt,
+            published: false,
             share,
             entries,
             shape: PhantomData,
@@ -104,7 +108,7 @@ impl<H: Shape> Board<H> {
         shares: &[Share],
     ) -> Result<(Board<H>, Vec<Pass<H>>), AllocError>
         requires small { (opening.now.slots ≤ 61000) × (opening.now.seats ≤ 32) × (opening.now.starts.attempt < 2 ^ 28) × (opening.now.starts.version < 2 ^ 60) }
-        requires may { MayOpen (sound_cells H.form opening.now) (size_of opening.now) (opening_cells opening.now.starts.version) (all_posted posted.now) }
+        requires may { MayOpen (sound_cells H.form opening.now) (size_of opening.now) (opening_cells opening.now.starts.version) opening.now.posted (all_posted posted.now) }
         requires given { map note_of opening.now.given.items ≡ opening_notes 0 (all_posted posted.now) }
         requires shares { (length shares.now ≡ opening.now.seats) × (1 ≤ length shares.now) }
         ensures { IfOk result (λ r. (board_size r.0 ≡ size_of opening.now) × (r.0.shares.items ≡ shares.now) × AreOpened r.0 opening.now r.1.items) }

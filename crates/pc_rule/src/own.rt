@@ -12,6 +12,13 @@ impl<H: Shape> Pass<H> {
     {
         self.installs
     }
+
+    /// The number of its last attempt.
+    pub fn attempts(&self) -> u64
+        ensures { result ≡ (view self.now).attempt.number }
+    {
+        self.attempts
+    }
 }
 
 impl<H: Shape> Board<H> {

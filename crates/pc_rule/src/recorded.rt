@@ -2,7 +2,7 @@
 ghost use Rattle.std.specs.Prelude.{IfOk, ◌≡◌, [], ◌+◌, ◌-◌, ◌<◌, ◌≤◌, false, None, length, vec_capacity};
 ghost use mathlib.Core.Option.{some};
 ghost use lib.ListN.{get_elem?};
-ghost use Rattle.pc_rule.specs.Passes.{share_of, recorded};
+ghost use Rattle.pc_rule.specs.Passes.{view, share_of, recorded};
 ghost use Rattle.pc_rule.specs.Recorded.{calls_of};
 ghost use Rattle.pc_rule.specs.declared.share.Share.{Share as Part};
 
@@ -98,11 +98,11 @@ impl<H: Shape> Pass<H> {
         false
     }
 
-    /// Whether it has published an exchange that isn't finished: never, until passes publish.
+    /// Whether it has published an exchange that isn't finished.
     pub fn published(&self) -> bool
-        ensures { result ≡ false }
+        ensures { result ≡ (view self.now).attempt.published }
     {
-        false
+        self.published
     }
 
     /// How many keys it owes a repair: none, until exchanges charge keys.

@@ -13,6 +13,7 @@ mod view;
 pub use law::Law;
 pub use opening::{Given, Opening, Starts};
 pub use plays::{
-    JoinPass, LoadCell, LoadInstall, LoadStatus, MakePass, PlaceInstall, StoreInstall, TakeInstall,
+    JoinPass, LoadCell, LoadClock, LoadInstall, LoadStatus, LoadWord, MakePass, PlaceInstall,
+    PublishAttempt, StoreInstall, StoreWord, TakeInstall,
 };
 pub use view::PassView;

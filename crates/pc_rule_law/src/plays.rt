@@ -1,6 +1,7 @@
 //! What each kind of step tells the pass that makes it, and how passes are made and joined. These types are for the
 //! proofs alone.
 ghost use Rattle.pc_rule_law.specs.Plays.{stores, loads_install, loads_cell, places_install, loads_status, takes_install};
+ghost use Rattle.pc_rule_law.specs.Plays.{loads_clock, writes, publishes, loads_word};
 ghost use Rattle.pc_rule_law.specs.Seats.{maker, made_by, joined_by, spent_view};
 
 use crate::view::PassView;
@@ -46,6 +47,34 @@ pub struct TakeInstall;
 
 impl Play<bool, PassView> for TakeInstall {
     ghost then = { takes_install };
+}
+
+/// A load of the clock.
+pub struct LoadClock;
+
+impl Play<bool, PassView> for LoadClock {
+    ghost then = { loads_clock };
+}
+
+/// A store to a word of the own descriptor.
+pub struct StoreWord;
+
+impl Play<bool, PassView> for StoreWord {
+    ghost then = { writes };
+}
+
+/// The own next attempt is published.
+pub struct PublishAttempt;
+
+impl Play<bool, PassView> for PublishAttempt {
+    ghost then = { publishes };
+}
+
+/// A load of a word of a descriptor.
+pub struct LoadWord;
+
+impl Play<bool, PassView> for LoadWord {
+    ghost then = { loads_word };
 }
 
 /// The last pass makes another.

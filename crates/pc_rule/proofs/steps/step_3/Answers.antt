@@ -29,6 +29,8 @@ invariant_of-pass g c = let t = c.store.ensures.2 in let v : View = c.args.pass.
       live = t.1.0 ∙ c.args.pass.now.live;
       numbered = t.1.1 ∙ c.args.pass.now.numbered;
       counted = ap (λ (u : View). u.install.number) told ∙ (number_stored v.install c.args.place c.args.new ∙ (ap (number_after c.args.place c.args.new) c.args.pass.now.counted ∙ sym c.number_then-pass.ensures));
+      tried = ap (λ (w : View). w.attempt.number) told ∙ c.args.pass.now.tried;
+      pending = ap (λ (w : View). w.attempt.published) told ∙ c.args.pass.now.pending;
       holds_none = t.0 ∙ c.args.pass.now.holds_none;
       few = c.args.pass.now.few;
       roomy = c.args.pass.now.roomy;

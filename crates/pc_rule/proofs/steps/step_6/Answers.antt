@@ -3,7 +3,7 @@ use Rattle.std.proofs.Common.{◌≡◌, ap, ◌∙◌}
 use mathlib.Core.Logic.{dite}
 use native.Mathlib.Decide.{ℕ_discrete}
 use Rattle.pc_rule_law.specs.Board.{Size, Place, at_cell}
-use Rattle.pc_rule_law.specs.Views.{View}
+use Rattle.pc_rule_law.specs.Views.{OwnAttempt, View}
 use Rattle.pc_rule_law.specs.Tables.{size_of, sound_cells}
 use Rattle.pc_rule_law.proofs.Places.{within}
 use Rattle.pc_rule.proofs.Telling.{told_at}
@@ -22,10 +22,13 @@ pub invariant_of-pass : goal.invariant_of-pass
 invariant_of-pass g c = let t = c.compare_exchange.ensures.2 in let v : View = c.args.pass.now.seat.me.0 in let w : View = c.compare_exchange.new.seat.me.0 in let z : Size = size_of c.args.board.now.table.shared.key in let p : Place = at_cell c.args.node c.args.field in
     let told = told_at v z c.cell_word-word.result (PlacedInstall v c.args.old c.compare_exchange.result w) p c.requires.pass.1 t.2 c.requires.inside c.cell_word-word.ensures in
     let same : w.install.number ≡ v.install.number = dite (ℕ_discrete c.compare_exchange.result c.args.old) (λ e. ap (λ (u : View). u.install.number) (told.hit e)) (λ ne. ap (λ (u : View). u.install.number) (told.miss ne)) in
+    let mine : w.attempt ≡ v.attempt = dite (ℕ_discrete c.compare_exchange.result c.args.old) (λ e. ap (λ (u : View). u.attempt) (told.hit e)) (λ ne. ap (λ (u : View). u.attempt) (told.miss ne)) in
     record {
       live = t.1.0 ∙ c.args.pass.now.live;
       numbered = t.1.1 ∙ c.args.pass.now.numbered;
       counted = same ∙ c.args.pass.now.counted;
+      tried = ap (λ (u : OwnAttempt). u.number) mine ∙ c.args.pass.now.tried;
+      pending = ap (λ (u : OwnAttempt). u.published) mine ∙ c.args.pass.now.pending;
       holds_none = t.0 ∙ c.args.pass.now.holds_none;
       few = c.args.pass.now.few;
       roomy = c.args.pass.now.roomy;

@@ -25,6 +25,8 @@ invariant_of-pass g c = let t = c.load.ensures.2 in let v : View = c.args.pass.n
       live = t.1.0 ∙ c.args.pass.now.live;
       numbered = t.1.1 ∙ c.args.pass.now.numbered;
       counted = ap (λ (w : View). w.install.number) told.1.later.same ∙ c.args.pass.now.counted;
+      tried = ap (λ (w : View). w.attempt.number) told.1.later.same ∙ c.args.pass.now.tried;
+      pending = ap (λ (w : View). w.attempt.published) told.1.later.same ∙ c.args.pass.now.pending;
       holds_none = t.0 ∙ c.args.pass.now.holds_none;
       few = c.args.pass.now.few;
       roomy = c.args.pass.now.roomy;

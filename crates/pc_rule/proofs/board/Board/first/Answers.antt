@@ -5,7 +5,7 @@ use Rattle.atomic_table.specs.Table.{opening}
 use Rattle.pc_model.specs.Linked.{opening_cells}
 use Rattle.pc_rule_law.specs.declared.opening.Opening.{Opening}
 use Rattle.pc_rule_law.specs.Board.{Size, Represents}
-use Rattle.pc_rule_law.specs.Openings.{opening_attempt, opening_notes}
+use Rattle.pc_rule_law.specs.Openings.{opening_attempt, opening_words, opening_notes}
 use Rattle.pc_rule_law.specs.Plays.{IsWell}
 use Rattle.pc_rule_law.specs.Rule.{Holds}
 use Rattle.pc_rule_law.specs.Seats.{new_view}
@@ -21,15 +21,15 @@ use Rattle.pc_rule.proofs.board.Board.first.Goals as goal
 pub of_words-requires : goal.of_words-requires
 of_words-requires g c = let o = c.args.opening.now in let posted = all_posted c.args.posted.now in let z : Size = size_of o in let sound = sound_cells g.H.Shape.form o in let cells = opening_cells o.starts.version in
     let represents : Represents z c.as_slice.result.now (starting_board o c.args.posted.now) = subst (λ (l : List ℕ). Represents z l (starting_board o c.args.posted.now)) (sym c.as_slice.ensures.value) c.in_ok-words.ensures in
-    subst (λ (notes : List Note). Holds sound z (opening c.as_slice.result.now [] (new_view z 0 notes))) (sym c.requires.given)
-    (opening_holds sound z c.as_slice.result.now (starting_board o c.args.posted.now) cells (opening_attempt posted) (opening_notes 0 posted) represents (may_open sound z cells posted c.requires.may))
+    subst (λ (notes : List Note). Holds sound z (opening c.as_slice.result.now [] (new_view z 0 o.posted notes))) (sym c.requires.given)
+    (opening_holds sound z c.as_slice.result.now (starting_board o c.args.posted.now) cells (opening_attempt posted) (opening_words posted) o.posted (opening_notes 0 posted) represents (may_open sound z cells o.posted posted c.requires.may))
 
 pub returns-clause-opened : goal.returns-clause-opened
 returns-clause-opened g c = let o = c.args.opening.now in let posted = all_posted c.args.posted.now in let z : Size = size_of o in let sound = sound_cells g.H.Shape.form o in let cells = opening_cells o.starts.version in
     let made = c.in_ok-table.ensures in let key = made.5 in
     let kept : c.extend_from_slice.new.self.items ≡ c.args.shares.now = search rules in
     let view_is : c.in_ok-table.seat.me.0 ≡ first_view o = ap (λ m. m.0) made.4 in
-    let ranged : AllNotes (NoteInRange z) (opening_notes 0 posted) = λ x has. ((may_open sound z cells posted c.requires.may).noted x has).1 in
+    let ranged : AllNotes (NoteInRange z) (opening_notes 0 posted) = λ x has. ((may_open sound z cells o.posted posted c.requires.may).noted x has).1 in
     let well : IsWell (first_view o) = λ _. subst (AllNotes (NoteInRange z)) (sym c.requires.given) ranged in (
       ap size_of key,
       kept,

@@ -1,0 +1,68 @@
+//! The steps of an exchange of several words, one call for each kind, by the numbers of the kinds of step: so far those up to
+//! its publication, and those by which others read what it is. `of` is the number of the pass whose word is meant, from 1.
+//! The words of a descriptor are, by their places: 0 the mode, 1 and 2 the numbers of changes and of visits, from 3 on
+//! three words for each change (the word's number, its old and its new value), and behind the room for these two for each
+//! visit (the node and its version).
+ghost use Rattle.std.specs.Prelude.{◌≡◌, ◌-◌, ◌<◌};
+ghost use Rattle.pc_rule_law.specs.Board.{descriptor_words};
+ghost use Rattle.pc_rule_law.specs.Conditions.{CanWrite};
+ghost use Rattle.pc_rule_law.specs.Plays.{ClockLoaded, after_write, after_publish, DescriptorLoaded};
+ghost use Rattle.pc_rule.specs.Conditions.{MayPublish};
+ghost use Rattle.pc_rule.specs.Passes.{view, board_size, IsPassOf, IsSamePass, HasPass};
+
+use crate::board::{Board, Pass};
+use pc_model::Shape;
+use pc_rule_law::{LoadClock, LoadWord, PublishAttempt, StoreWord};
+
+/// A load of the clock.
+pub fn step_9<H: Shape>(board: &Board<H>, pass: &mut Pass<H>) -> u64
+    requires pass { IsPassOf board.now pass.old }
+    ensures pass { IsSamePass pass.old pass.new }
+    ensures told { ClockLoaded (view pass.old) result (view pass.new) }
+{
+    board.table.shared.load::<LoadClock>(&mut pass.seat, 0)
+}
+
+/// A store to a word of the own descriptor, while nothing is published.
+pub fn step_10<H: Shape>(board: &Board<H>, pass: &mut Pass<H>, place: u32, new: u64)
+    requires pass { IsPassOf board.now pass.old }
+    requires place { place < descriptor_words (board_size board.now).slots }
+    requires may { CanWrite (view pass.old) }
+    ensures pass { IsSamePass pass.old pass.new }
+    ensures told { view pass.new ≡ after_write (view pass.old) place new }
+{
+    let word = board.own_word(pass.index, 6 + place as usize);
+    board
+        .table
+        .shared
+        .store::<StoreWord>(&mut pass.seat, word, new);
+}
+
+/// Publishes the own next attempt: a store of the status that says that it is undecided. Its words are those that stand in
+/// the descriptor.
+pub fn step_11<H: Shape>(board: &Board<H>, pass: &mut Pass<H>, new: u64)
+    requires pass { IsPassOf board.now pass.old }
+    requires may { MayPublish (view pass.old) new }
+    ensures pass { IsSamePass pass.old pass.new }
+    ensures told { view pass.new ≡ after_publish (view pass.old) }
+{
+    let word = board.own_word(pass.index, 0);
+    board
+        .table
+        .shared
+        .store::<PublishAttempt>(&mut pass.seat, word, new);
+    pass.attempts += 1;
+    pass.published = true;
+}
+
+/// A load of a word of a descriptor.
+pub fn step_12<H: Shape>(board: &Board<H>, pass: &mut Pass<H>, of: u32, place: u32) -> u64
+    requires pass { IsPassOf board.now pass.old }
+    requires of { HasPass board.now of }
+    requires place { place < descriptor_words (board_size board.now).slots }
+    ensures pass { IsSamePass pass.old pass.new }
+    ensures told { DescriptorLoaded (view pass.old) (of - 1) place result (view pass.new) }
+{
+    let word = board.own_word(of as usize - 1, 6 + place as usize);
+    board.table.shared.load::<LoadWord>(&mut pass.seat, word)
+}
