@@ -16,6 +16,7 @@ use Rattle.pc_rule_law.specs.Rule.{Standing, CellOk, Shared, Kept, Holds}
 use Rattle.pc_rule_law.specs.Conditions.{IsFree}
 use Rattle.pc_rule_law.specs.Values.{IsPlainValue}
 use Rattle.pc_rule_law.specs.Closings.{IsClosed}
+use Rattle.pc_rule_law.proofs.Descriptors.{described_now}
 use Rattle.pc_rule_law.proofs.InstallStores.{none_stands}
 use Rattle.pc_rule_law.proofs.Values.{plain_value, one_plain_value, install_is_present, exchange_is_present}
 
@@ -38,7 +39,7 @@ module _ (sound : ℕ → Cells → Type 0) (z : Size) where
   refers : (b : Board) (h : Past) → Shared sound z b h → (n : ℕ) (f : Field) (p a : ℕ) → b.cell n f ≡ Exchange p a
       → (p < z.seats) × (b.word p 1 ≤ 25 + z.slots)
   refers b h s n f p a is = let here = exchange_is_present sound z b h s n f p a is in
-      let d : Describes z.slots (h.attempt p (b.status p).number) (b.word p) = s.described p here.2 in
+      let d : Describes z.slots (h.attempt p (b.status p).number) (b.word p) = described_now sound z b h s p here.2 in
       let few : length (h.attempt p (b.status p).number).changes ≤ 25 + z.slots = (s.formed p (b.status p).number).few in
       (here.0, subst (λ (c : ℕ). c ≤ 25 + z.slots) (sym d.changes) few)
 
