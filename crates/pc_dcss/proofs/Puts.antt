@@ -1,5 +1,5 @@
 -- What the placing of the own install tells.
-use Rattle.std.proofs.Common.{◌≡◌, ℕ, ◌<◌, ◌≢◌, List, [], ◌∷◌, ◌++◌, sym, ap, ◌∙◌, subst, refl, arith}
+use Rattle.std.proofs.Common.{◌≡◌, ℕ, ◌<◌, ◌≢◌, List, [], ◌∷◌, ◌++◌, sym, ap, ◌∙◌, subst, refl, inl, inr, ⊎_elim, arith}
 use Rattle.pc_model.specs.declared.cell.Field.{Field}
 use Rattle.pc_model.specs.Linked.{opening_cells}
 use Rattle.pc_words.specs.declared.word.WordKind.{WordKind}
@@ -15,7 +15,9 @@ use Rattle.pc_rule.specs.declared.opening.Place.{Place}
 use Rattle.pc_rule.specs.declared.refs.RefKind.{RefKind}
 use Rattle.pc_rule.specs.declared.refs.RefKind.TheVariants.{Install as AnInstall, Exchange as AnExchange}
 use Rattle.pc_rule.specs.declared.refs.Ref.{Ref}
-use Rattle.pc_dcss.specs.Installs.{KnowsPlace, KeepsNotes, IsReady, IsPlaced, word_of, met_note, IsOther, IsMet, IsDifferent, OnHeld, IfMet, IfDiffers}
+use Rattle.pc_rule_law.specs.Conditions.{KnowsStill, KnowsEntry}
+use Rattle.pc_rule_law.proofs.Descriptors.{change_still}
+use Rattle.pc_dcss.specs.Installs.{entry_of, KnowsPlace, KeepsNotes, IsReady, IsPlaced, word_of, met_note, IsOther, IsMet, IsDifferent, OnHeld, IfMet, IfDiffers}
 use Rattle.pc_dcss.specs.declared.installed.Installed.{Installed}
 use Rattle.pc_dcss.specs.declared.installed.Installed.TheVariants.{Held, Decided, Differs, Met, Numbers as OutOfNumbers}
 
@@ -26,12 +28,26 @@ pub keeps_with_more : (v w : View) (more : List Note) → w.notes ≡ more ++ v.
 keeps_with_more v w more e x h = subst (λ xs. Has xs x) (sym e) (has_right more v.notes x h)
 
 -- the numbers of a change that is known
-pub place_ranged : (z : Size) (v : View) → AllNotes (NoteInRange z) v.notes → (op : Ref) (place : Place) → KnowsPlace v op place
-    → NoteInRange z (entry op.seat op.number (change place.node place.field place.old place.new))
-place_ranged z v ranged op place known = ranged (entry op.seat op.number (change place.node place.field place.old place.new)) known
+pub place_ranged : (z : Size) (v : View) → v.size ≡ z → AllNotes (NoteInRange z) v.notes → (op : Ref) (place : Place) → KnowsPlace v op place
+    → NoteInRange z (entry_of op place)
+place_ranged z v sized ranged op place known = ⊎_elim (λ given. ranged (entry_of op place) given)
+    (λ read. subst (λ (y : Size). NoteInRange y (entry_of op place)) sized read.0) known
+
+-- what is known of the exchange's change, as the rule asks for it
+pub entry_known : (v : View) (op : Ref) (place : Place) → KnowsPlace v op place
+    → KnowsEntry v op.seat op.number place.node place.field place.old
+entry_known v op place known = (place.new, ⊎_elim (λ given. inl given) (λ read. inr (read.1, read.2)) known)
+
+-- and it is known still, when the pass has learnt more
+pub place_still : (v w : View) → KnowsStill v w → (op : Ref) (place : Place) → KnowsPlace v op place → KnowsPlace w op place
+place_still v w k op place known = ⊎_elim (λ given. inl (k.notes (entry_of op place) given)) (λ read. inr (
+  subst (λ (z : Size). NoteInRange z (entry_of op place)) (sym k.size) read.0,
+  read.1,
+  change_still v w k op.seat op.number read.1 place.node place.field place.old place.new read.2,
+)) known
 
 module _ (z : Size) (v w : View) (own op : Ref) (place : Place) (ready : IsReady v own op place)
-    (hit : w ≡ after_place v place.node place.field) where
+    (hit : w ≡ after_place v place.node place.field) (sized : v.size ≡ z) where
   notes_are : w.notes ≡ own_notes v place.node place.field ++ v.notes
   notes_are = ap (λ (u : View). u.notes) hit
 
@@ -61,7 +77,7 @@ module _ (z : Size) (v w : View) (own op : Ref) (place : Place) (ready : IsReady
 
   pub placed_by_hit : v.seat < z.seats → AllNotes (NoteInRange z) v.notes → IsPlaced z w own op place
   unfolding met_own op_own place_own old_own
-  placed_by_hit in_seats ranged = let r = place_ranged z v ranged op place ready.listed in record {
+  placed_by_hit in_seats ranged = let r = place_ranged z v sized ranged op place ready.listed in record {
     kind = ready.kind;
     seat = ready.seat ∙ sym (ap (λ (u : View). u.seat) hit);
     number = ready.number ∙ sym (ap (λ (u : View). u.install.number) hit);

@@ -1,5 +1,5 @@
 -- What clauses say of installs, by what a pass has noted.
-use Rattle.std.specs.Prelude.{◌≡◌, ◌≢◌, ℕ, ◌-◌, ◌^◌, ◌<◌, ◌≤◌, true, ◌∷◌, ◌++◌}
+use Rattle.std.specs.Prelude.{◌≡◌, ◌≢◌, ◌⊎◌, ℕ, ◌-◌, ◌^◌, ◌<◌, ◌≤◌, true, ◌∷◌, ◌++◌}
 use Rattle.pc_model.specs.declared.cell.Field.{Field}
 use Rattle.pc_model.specs.declared.numbers.Numbers.{Numbers}
 use Rattle.pc_model.specs.Cells.{IsNode}
@@ -10,7 +10,8 @@ use Rattle.pc_words.specs.Words.{raw}
 use Rattle.pc_rule_law.specs.Board.{Size, place_number}
 use Rattle.pc_rule_law.specs.Past.{Has, change}
 use Rattle.pc_rule_law.specs.Plays.{found, IsNotedSince}
-use Rattle.pc_rule_law.specs.Views.{Note, View, entry, placed, install_word, decided_below, held, IsInstall, IsAttempt}
+use Rattle.pc_rule_law.specs.Views.{Note, View, entry, placed, install_word, decided_below, held, IsInstall, IsAttempt, NoteInRange}
+use Rattle.pc_rule_law.specs.Conditions.{KnowsChange}
 use Rattle.pc_model.specs.declared.cell.Counter.TheVariants.{Install as Installs}
 use Rattle.pc_rule.specs.declared.opening.Place.{Place}
 use Rattle.pc_rule.specs.declared.refs.RefKind.{RefKind}
@@ -50,9 +51,14 @@ KnowsNumbers v q k op place old = Has v.notes (install_word q k 1 op) × Has v.n
 abbrev pub last_install : ℕ
 last_install = 2 ^ 54 - 1
 
--- the exchange is known to change this word from the old value
+-- the exchange is known to change this word from the old value: it was given so at the opening, or its numbers are in range
+-- and the words of its descriptor that say so are known
+abbrev pub entry_of : Ref → Place → Note
+entry_of op place = entry op.seat op.number (change place.node place.field place.old place.new)
+
 abbrev pub KnowsPlace : View → Ref → Place → Type 0
-KnowsPlace v op place = Has v.notes (entry op.seat op.number (change place.node place.field place.old place.new))
+KnowsPlace v op place = Has v.notes (entry_of op place)
+    ⊎ (NoteInRange v.size (entry_of op place) × (i : ℕ) × KnowsChange v op.seat op.number i place.node place.field place.old place.new)
 
 -- the word of a reference, and what is noted of a word that holds it
 abbrev pub word_of : RefKind → ℕ → ℕ → WordKind

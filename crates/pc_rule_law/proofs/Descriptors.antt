@@ -1,6 +1,6 @@
 -- What a pass knows of the words of a descriptor is so: by its notes, or since they are its own. So a change that it knows by
 -- its words is one of the attempt.
-use Rattle.std.proofs.Common.{◌≡◌, ℕ, ◌+◌, ◌*◌, ◌<◌, ◌≤◌, false, length, refl, sym, ap, ap₂, ◌∙◌, subst, ⊎_elim, arith}
+use Rattle.std.proofs.Common.{◌≡◌, ℕ, ◌+◌, ◌*◌, ◌<◌, ◌≤◌, false, length, refl, sym, ap, ap₂, ◌∙◌, subst, inl, inr, ⊎_elim, arith}
 use mathlib.Core.Option.{some}
 use lib.ListN.{get_elem?}
 use Rattle.pc_model.specs.declared.cell.Field.{Field}
@@ -9,11 +9,33 @@ use Rattle.pc_model.specs.Exchanges.{Changed}
 use Rattle.pc_rule_law.specs.Board.{Size, Board, descriptor_words, place_number}
 use Rattle.pc_rule_law.specs.Past.{Has, Attempt, Past, change, Describes, IsFormed}
 use Rattle.pc_rule_law.specs.Stages.{IsIdle}
-use Rattle.pc_rule_law.specs.Views.{entry, attempt_word, word_in, View, NoteHolds, AllNotes}
+use Rattle.pc_rule_law.specs.Views.{entry, attempt_word, OwnAttempt, word_in, View, NoteHolds, AllNotes}
 use Rattle.pc_rule_law.specs.Rule.{Own, OwnTries, Shared}
-use Rattle.pc_rule_law.specs.Conditions.{KnowsWord, KnowsChange, KnowsEntry}
+use Rattle.pc_rule_law.specs.Conditions.{KnowsWord, KnowsStill, KnowsChange, KnowsEntry}
 use Rattle.pc_rule_law.proofs.Lists.{below_length, element_at}
 use Rattle.pc_rule_law.proofs.Places.{one_word}
+
+-- what is known of a descriptor is known still
+word_still : (v w : View) → KnowsStill v w → (p a place x : ℕ) → KnowsWord v p a place x → KnowsWord w p a place x
+word_still v w k p a place x known = ⊎_elim (λ read. inl (k.notes (attempt_word p a place x) read)) (λ own. inr (
+  own.0 ∙ sym k.seat,
+  own.1 ∙ ap (λ (o : OwnAttempt). o.number) (sym k.attempt),
+  k.posted ∙ own.2,
+  ap (λ (o : OwnAttempt). o.published) k.attempt ∙ own.3,
+  subst (λ (z : Size). place < descriptor_words z.slots) (sym k.size) own.4,
+  ap (λ (o : OwnAttempt). word_in o.words place) k.attempt ∙ own.5,
+)) known
+
+pub change_still : (v w : View) → KnowsStill v w → (p a i n : ℕ) (f : Field) (old new : ℕ) → KnowsChange v p a i n f old new
+    → KnowsChange w p a i n f old new
+change_still v w k p a i n f old new c = record {
+  count = c.count;
+  below = c.below;
+  known_count = word_still v w k p a 1 c.count c.known_count;
+  known_place = word_still v w k p a (3 + 3 * i) (place_number n f) c.known_place;
+  known_old = word_still v w k p a (4 + 3 * i) old c.known_old;
+  known_new = word_still v w k p a (5 + 3 * i) new c.known_new;
+}
 
 -- a change at a place of a list whose words are those of the descriptor
 pub change_of_words : (slots : ℕ) (a : Attempt) (word : ℕ → ℕ) → Describes slots a word → (i n : ℕ) (f : Field) (old new : ℕ)

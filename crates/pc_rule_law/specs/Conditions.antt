@@ -7,7 +7,7 @@ use Rattle.pc_words.specs.declared.word.WordKind.TheVariants.{Plain, Install, Ex
 use Rattle.pc_words.specs.Words.{raw}
 use Rattle.pc_rule_law.specs.Board.{Size, place_number, descriptor_words}
 use Rattle.pc_rule_law.specs.Past.{Has, Attempt, change, Describes, IsFormed}
-use Rattle.pc_rule_law.specs.Views.{entry, install_word, early, removed, decided_below, attempt_word, word_in, View, IsAttempt}
+use Rattle.pc_rule_law.specs.Views.{Note, entry, install_word, early, removed, decided_below, attempt_word, word_in, View, IsAttempt}
 
 -- no install of the pass stands anywhere
 abbrev pub IsFree : View → Type 0
@@ -23,6 +23,14 @@ abbrev pub KnowsWord : View → ℕ → ℕ → ℕ → ℕ → Type 0
 KnowsWord v p a place x = Has v.notes (attempt_word p a place x)
     ⊎ ((p ≡ v.seat) × (a ≡ v.attempt.number) × (v.posted ≡ false) × (v.attempt.published ≡ true)
     × (place < descriptor_words v.size.slots) × (word_in v.attempt.words place ≡ x))
+
+-- the pass knows what it knew of notes, and its seat and its attempt are the same
+pub record KnowsStill (v w : View) : Type 0 where
+  pub notes : (x : Note) → Has v.notes x → Has w.notes x
+  pub seat : w.seat ≡ v.seat
+  pub size : w.size ≡ v.size
+  pub attempt : w.attempt ≡ v.attempt
+  pub posted : w.posted ≡ v.posted
 
 -- the words of the i-th change of an attempt are known, and that it has so many
 pub record KnowsChange (v : View) (p a i n : ℕ) (f : Field) (old new : ℕ) : Type 0 where

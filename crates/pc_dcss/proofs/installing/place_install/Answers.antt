@@ -1,19 +1,24 @@
 -- What is known of the exchange bounds its numbers, and a descriptor's words are no notes.
-use Rattle.std.proofs.Common.{sym, subst, arith}
+use Rattle.std.proofs.Common.{rules, ◌+◌, refl, sym, subst, arith}
 use Rattle.pc_rule_law.specs.Past.{Has}
+use Rattle.pc_words.specs.declared.word.WordKind.TheVariants.{Exchange as ExchangeWord}
+use Rattle.pc_words.specs.Words.{raw}
+use Rattle.pc_rule_law.specs.Board.{place_number}
 use Rattle.pc_rule_law.specs.Views.{View, held}
 use Rattle.pc_rule_law.specs.Plays.{AddsNotes, IsNotedSince}
 use Rattle.std.specs.Prelude.{IfErr}
-use Rattle.pc_dcss.specs.Installs.{IsMet, IsDifferent, OnHeld, IfMet, IfDiffers}
+use Rattle.pc_dcss.specs.Installs.{described, IsReady, IsMet, IsDifferent, OnHeld, IfMet, IfDiffers}
+use Rattle.pc_rule.specs.declared.refs.Ref.{Ref}
+use Rattle.pc_rule.specs.declared.refs.RefKind.TheVariants.{Install as AnInstall}
 use Rattle.pc_rule.specs.Passes.{view, board_size}
 use Rattle.pc_rule.proofs.BoardSizes.{few_seats}
 use Rattle.pc_dcss.proofs.Staying.{notes_ranged}
-use Rattle.pc_dcss.proofs.Puts.{place_ranged}
+use Rattle.pc_dcss.proofs.Puts.{place_ranged, place_still}
 use Rattle.pc_dcss.proofs.installing.place_install.Goals as goal
 
 pub describe-requires-clause-op : goal.describe-requires-clause-op
 describe-requires-clause-op g c κs within = let b = c.args.board.now in let p = c.args.pass.now in let few = few_seats b in
-    let r = (place_ranged (board_size b) (view p) (notes_ranged b p c.requires.pass) c.args.op c.args.place c.requires.place).0 in
+    let r = (place_ranged (board_size b) (view p) c.requires.pass.1 (notes_ranged b p c.requires.pass) c.args.op c.args.place c.requires.place).0 in
     ((let s = r.0 in omega arith), r.1)
 
 pub returns-clause-keeps : goal.returns-clause-keeps
@@ -33,3 +38,19 @@ returns-clause-adds g c = subst (λ (u : View). AddsNotes u (view c.put_install.
 pub returns-clause-held : goal.returns-clause-held
 returns-clause-held g c = subst (λ (u : View). IfErr c.put_install.result (λ i. OnHeld i (IsNotedSince u (view c.put_install.new.pass) (held c.args.op.seat c.args.op.number c.args.place.node c.args.place.field))))
     c.describe.ensures.told c.put_install.ensures.held
+
+pub put_install-requires-clause-ready : goal.put_install-requires-clause-ready
+put_install-requires-clause-ready g c = λ _ _. let own : Ref = record { kind = AnInstall; seat = c.seat_of.result; number = c.installs-last.result + 1 } in
+    let v : View = view c.args.pass.now in
+    let w : View = described v (c.installs-last.result + 1) (raw (ExchangeWord c.args.op.seat c.args.op.number)) (place_number c.args.place.node c.args.place.field) c.args.place.old in
+    subst (λ (u : View). IsReady u own c.args.op c.args.place) (sym c.describe.ensures.told) record {
+      kind = refl;
+      seat = search rules;
+      number = refl;
+      small = search rules;
+      fresh = refl;
+      op_word = refl;
+      place_word = refl;
+      old_word = refl;
+      listed = place_still v w record { notes = λ x h. h; seat = refl; size = refl; attempt = refl; posted = refl } c.args.op c.args.place c.requires.place;
+    }

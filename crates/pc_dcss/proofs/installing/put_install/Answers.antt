@@ -5,20 +5,20 @@ use Rattle.pc_words.specs.Words.{kind}
 use Rattle.pc_rule_law.specs.Plays.{own_notes, found}
 use Rattle.pc_rule.specs.Passes.{view, board_size}
 use Rattle.pc_dcss.proofs.Staying.{notes_ranged}
-use Rattle.pc_dcss.proofs.Puts.{install_again, keeps_with_more, place_ranged, placed_by_hit, held_now, met_now, differs_now, not_old}
+use Rattle.pc_dcss.proofs.Puts.{install_again, keeps_with_more, place_ranged, entry_known, placed_by_hit, held_now, met_now, differs_now, not_old}
 use Rattle.pc_dcss.proofs.installing.put_install.Goals as goal
 
 pub plain-old-requires : goal.plain-old-requires
 plain-old-requires g c = let b = c.args.board.now in let p = c.args.pass.now in
-    (place_ranged (board_size b) (view p) (notes_ranged b p c.requires.pass) c.args.op c.args.place c.requires.ready.listed).2
+    (place_ranged (board_size b) (view p) c.requires.pass.1 (notes_ranged b p c.requires.pass) c.args.op c.args.place c.requires.ready.listed).2
 
 pub step_6-found-requires-clause-inside : goal.step_6-found-requires-clause-inside
 step_6-found-requires-clause-inside g c κs within = let b = c.args.board.now in let p = c.args.pass.now in
-    (place_ranged (board_size b) (view p) (notes_ranged b p c.requires.pass) c.args.op c.args.place c.requires.ready.listed).1
+    (place_ranged (board_size b) (view p) c.requires.pass.1 (notes_ranged b p c.requires.pass) c.args.op c.args.place c.requires.ready.listed).1
 
 pub step_6-found-requires-clause-may : goal.step_6-found-requires-clause-may
 step_6-found-requires-clause-may g c κs within = let b = c.args.board.now in let p = c.args.pass.now in let v : View = view p in let ready = c.requires.ready in
-    let r = place_ranged (board_size b) v (notes_ranged b p c.requires.pass) c.args.op c.args.place ready.listed in (
+    let r = place_ranged (board_size b) v c.requires.pass.1 (notes_ranged b p c.requires.pass) c.args.op c.args.place ready.listed in (
       c.args.place.old,
       c.args.op.seat,
       c.args.op.number,
@@ -33,7 +33,7 @@ step_6-found-requires-clause-may g c κs within = let b = c.args.board.now in le
         old = ready.old_word;
         small = (subst (λ x. x < 2 ^ 54) ready.number ready.small, r.2);
         attempt = r.0;
-        listed = (c.args.place.new, ready.listed);
+        listed = entry_known v c.args.op c.args.place ready.listed;
       },
     )
 
@@ -44,7 +44,7 @@ returns-then-found-old-clause-keeps g c = let v : View = view c.args.pass.now in
 pub returns-then-found-old-clause-placed : goal.returns-then-found-old-clause-placed
 returns-then-found-old-clause-placed g c = let b = c.args.board.now in let p = c.args.pass.now in
     placed_by_hit (board_size b) (view p) (view c.step_6-found.new.pass) c.args.own c.args.op c.args.place c.requires.ready (c.step_6-found.ensures.told.hit c.if-found-old.true)
-    c.requires.pass.2 (notes_ranged b p c.requires.pass)
+    c.requires.pass.1 c.requires.pass.2 (notes_ranged b p c.requires.pass)
 
 pub returns-clause-keeps : goal.returns-clause-keeps
 returns-clause-keeps g c = let v : View = view c.args.pass.now in
