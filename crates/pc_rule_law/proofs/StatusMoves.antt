@@ -203,7 +203,7 @@ module _ (sound : ℕ → Cells → Type 0) (z : Size) (b : Board) (h : Past) (i
           (λ _ le e busy. (e, busy, λ place. refl));
     }
 
-    status_tries : (j : ℕ) → j ≢ id → LeavesTries b b' j
+    pub status_tries : (j : ℕ) → j ≢ id → LeavesTries b b' j
     status_tries j ne = record {
       number = on_status (λ r u. r ≢ id → u.number ≡ (b.status r).number) j (λ other. (m.foreign other).0) (λ _ _. refl) ne;
       idle = on_status (λ r u. r ≢ id → IsIdle (b.status r).stage → IsIdle u.stage) j

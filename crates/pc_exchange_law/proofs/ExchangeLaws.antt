@@ -1,0 +1,144 @@
+-- The law of the steps of an exchange.
+use Rattle.std.proofs.Common.{◌<◌, refl, sym, arith, ℕ, ◌≤◌, Bool, subst}
+use Rattle.pc_model.specs.declared.cell.Field.{Field}
+use Rattle.pc_model.specs.Forms.{Form, IsSound, Fits}
+use Rattle.pc_words.specs.declared.word.WordKind.{WordKind}
+use Rattle.pc_rule_law.specs.Board.{Size, Board}
+use Rattle.pc_rule_law.specs.Past.{Attempt, Placing, Past}
+use Rattle.pc_rule_law.specs.Views.{View, NoteHolds, AllNotes}
+use Rattle.pc_rule_law.specs.Rule.{Own, Shared}
+use Rattle.pc_protocol.specs.Histories.{for_exchange, for_read, History}
+use Rattle.pc_protocol.specs.Steps.{draw, refer}
+use Rattle.pc_exchange_law.specs.Ties.{code, reference_in, exchange_of}
+use Rattle.pc_exchange_law.specs.Changes.{with_word, with_next_stamp, with_installs, ShowsSame, MayBecome}
+use Rattle.pc_exchange_law.specs.Attempts.{Scripts}
+use Rattle.pc_exchange_law.specs.AttemptSteps.{KeepsAttempts, BringsInstalls}
+use Rattle.pc_exchange_law.specs.ClockEnds.{ClockIsBounded}
+use Rattle.pc_exchange_law.specs.Passes.{PassKnows, IsKnown}
+use Rattle.pc_exchange_law.specs.Knowing.{after_draw, after_refusal}
+use Rattle.pc_exchange_law.specs.Worlds.{World}
+use Rattle.pc_exchange_law.specs.ExchangeLaws.{Comes, ExchangeStepsGoOn}
+use Rattle.pc_exchange_law.proofs.AttemptNotes.{attempt_note_stays}
+use Rattle.pc_exchange_law.proofs.AttemptSteps.{steps_keep_attempts, steps_leave_attempts}
+use Rattle.pc_exchange_law.proofs.KnowingSteps.{own_same}
+use Rattle.pc_exchange_law.proofs.OwnAttempts.{steps_keep_scripts}
+use Rattle.pc_exchange_law.proofs.TieDraws.{look_leads}
+use Rattle.pc_exchange_law.proofs.TieWords.{word_leads}
+use Rattle.pc_exchange_law.proofs.Worlds.{Goes}
+use Rattle.pc_exchange_law.proofs.ExchangeSteps.{store_step, publish_step, draw_step, refuse_step, success_step}
+use Rattle.pc_exchange_law.proofs.ExchangeSteps.{failure_step, withdraw_step, take_step, clear_step}
+
+module _ (form : Form) (z : Size) (id : ℕ) (b : Board) (t : Past) (w : Scripts) (h : History) (late : ℕ → Bool) where
+  pub comes : (b' : Board) (t' : Past) (w' : Scripts) (h' : History) (late' : ℕ → Bool) (k' : PassKnows)
+      → Goes form z id b t w h late b' t' w' h' late' × IsKnown b' t' w' h' late' id k'
+      → Comes form z id b t w h late b' t' w' h' late' k'
+  comes b' t' w' h' late' k' step = record {
+    shared = step.0.shared;
+    world = step.0.world;
+    keeps = step.0.keeps;
+    attempts = step.0.attempts;
+    leaves = step.0.leaves_attempts;
+    leaves_late = step.0.leaves_late;
+    known = step.1;
+  }
+
+module _ (form : Form) (z : Size) (id : ℕ) (b : Board) (t : Past) (w : Scripts) (h : History) (late : ℕ → Bool)
+    (k : PassKnows) (few : z.seats ≤ 32) (seated : id < 64) (world : World form z b t w h late)
+    (known : IsKnown b t w h late id k) where
+  -- a step that changes nothing of which the world speaks
+  other_comes : (b' : Board) (t' : Past) → ShowsSame b t b' t' → KeepsAttempts b t b' t'
+      → Shared (IsSound form) z b' t'
+      → Comes form z id b t w h late b' t' w h late k
+  other_comes b' t' same keeps shared' =
+      let led = look_leads b t h world.tied world.rule b' t' same in
+      let grows = (steps_keep_attempts b t w).looks b' t' keeps in record {
+        shared = shared';
+        world = record {
+          rule = world.rule;
+          tied = led.tied;
+          scripts = (steps_keep_scripts z.slots b t w world.scripts).looks b' t' same.statuses keeps.words same.attempts;
+          clock = subst (λ (c : ℕ). ClockIsBounded z.seats c late) (sym same.clock) world.clock;
+          opening = world.opening;
+          charged = world.charged;
+          fits = λ p a small published. subst (λ (x : Attempt). Fits form z.slots (exchange_of x) (world.charged p a))
+              (sym (same.attempts p a)) (world.fits p a small published);
+        };
+        keeps = led.keeps;
+        attempts = grows;
+        leaves = (steps_leave_attempts id b h).others b' h keeps.statuses (λ j place _. keeps.words j place) (λ x. refl);
+        leaves_late = λ j ne. refl;
+        known = record {
+          own = own_same b h id k.own b' h seated keeps.statuses keeps.words (λ x. refl) known.own;
+          ready = known.ready;
+          noted = λ n has. attempt_note_stays b t w b' t' w grows n (known.noted n has);
+          told = known.told;
+        };
+      }
+
+  -- a step on one word of a node
+  word_comes : (n : ℕ) (f : Field) (c : WordKind) (placing' : ℕ → ℕ → Placing) (course' : ℕ → ℕ → ℕ)
+      → MayBecome z b t n f c → BringsInstalls b t c placing'
+      → Shared (IsSound form) z (with_word b n f c) (with_installs t placing' course')
+      → Comes form z id b t w h late (with_word b n f c) (with_installs t placing' course') w
+      (refer h n f (reference_in c)) late k
+  word_comes n f c placing' course' may brings shared' =
+      let b' : Board = with_word b n f c in let t' : Past = with_installs t placing' course' in
+      let h' : History = refer h n f (reference_in c) in
+      let led = word_leads z b t h few world.tied n f c may placing' course' world.rule in
+      let grows = (steps_keep_attempts b t w).words n f c placing' course' brings in record {
+        shared = shared';
+        world = record {
+          rule = led.keeps.rule;
+          tied = led.tied;
+          scripts = (steps_keep_scripts z.slots b t w world.scripts).looks b' t' (λ p. refl) (λ p place. refl)
+              (λ p a. refl);
+          clock = world.clock;
+          opening = world.opening;
+          charged = world.charged;
+          fits = world.fits;
+        };
+        keeps = led.keeps;
+        attempts = grows;
+        leaves = (steps_leave_attempts id b h).others b' h' (λ p. refl) (λ j place _. refl) (λ x. refl);
+        leaves_late = λ j ne. refl;
+        known = record {
+          own = own_same b h id k.own b' h' seated (λ p. refl) (λ p place. refl) (λ x. refl) known.own;
+          ready = known.ready;
+          noted = λ m has. attempt_note_stays b t w b' t' w grows m (known.noted m has);
+          told = λ m has. led.keeps.notes m (known.told m has);
+        };
+      }
+
+pub exchange_steps_go_on : (form : Form) (z : Size) (id : ℕ) (b : Board) (t : Past) (w : Scripts) (h : History)
+    (late : ℕ → Bool) (v : View) (k : PassKnows) → z.seats ≤ 32 → Shared (IsSound form) z b t
+    → World form z b t w h late
+    → Own z b.install t.course id v
+    → AllNotes (NoteHolds z b t) v.notes → IsKnown b t w h late id k → ExchangeStepsGoOn form z id b t w h late v k
+exchange_steps_go_on form z id b t w h late v k few shared world own noted known = record {
+  others = other_comes form z id b t w h late k few (let lt = own.seated.1 in omega arith) world known;
+  words = word_comes form z id b t w h late k few (let lt = own.seated.1 in omega arith) world known;
+  stores = λ place x may. comes form z id b t w h late _ _ _ _ _ _
+      (store_step form z few id b t w h late shared world v own noted k known place x may);
+  publishes = λ x c keys may. comes form z id b t w h late _ _ _ _ _ _
+      (publish_step form z few id b t w h late shared world v own noted k known x c keys may);
+  draws = λ p a may. let step = draw_step form z few id b t w h late shared world v own noted k known p a may in (
+    step.0,
+    subst (λ (s : ℕ). Comes form z id b t w h late (with_next_stamp b) t w (draw h (for_exchange (code p a))) step.0
+        (after_draw k (code p a) s)) world.tied.clock (comes form z id b t w h late _ _ _ _ _ _ step.1),
+  );
+  refuses = λ ready. let step = refuse_step form z few id b t w h late shared world v own noted k known ready in (
+    step.0,
+    subst (λ (s : ℕ). Comes form z id b t w h late (with_next_stamp b) t w (draw h (for_read id)) step.0
+        (after_refusal k s)) world.tied.clock (comes form z id b t w h late _ _ _ _ _ _ step.1),
+  );
+  succeeds = λ p s small pending may. comes form z id b t w h late _ _ _ _ _ _
+      (success_step form z few id b t w h late shared world v own noted k known p s small pending may);
+  fails = λ p cause small pending in_range may. comes form z id b t w h late _ _ _ _ _ _
+      (failure_step form z few id b t w h late shared world v own noted k known p cause small pending in_range may);
+  withdraws = λ pending. comes form z id b t w h late _ _ _ _ _ _
+      (withdraw_step form z few id b t w h late shared world v own noted k known pending);
+  takes = λ p a n f x is small may. comes form z id b t w h late _ _ _ _ _ _
+      (take_step form z few id b t w h late shared world v own noted k known p a n f x is small may);
+  clears = λ may. comes form z id b t w h late _ _ _ _ _ _
+      (clear_step form z few id b t w h late shared world v own noted k known may);
+}

@@ -1,0 +1,246 @@
+-- The steps of an exchange, from what the pass knows: each leads to the world afterwards, and to what the pass knows
+-- then. What is left for a table is which word the step is made on, and what is found where it misses.
+use Rattle.std.proofs.Common.{◌≡◌, ◌≢◌, ℕ, ◌+◌, ◌^◌, ◌<◌, ◌≤◌, ◌⊎◌, inl, inr, ⊎_elim, Bool, true, false, List, [], ◌∷◌, None, length, refl, sym, ◌∙◌, subst, arith}
+use Rattle.pc_model.specs.declared.cell.Field.{Field}
+use Rattle.pc_model.specs.Exchanges.{Changed}
+use Rattle.pc_model.specs.Forms.{Form, IsSound}
+use Rattle.pc_words.specs.declared.word.WordKind.TheVariants.{Plain, Exchange}
+use Rattle.pc_words.specs.declared.status.Stage.TheVariants.{Idle, Undecided, Succeeded, Withdrawn}
+use Rattle.pc_words.specs.Statuses.{StageInRange}
+use Rattle.pc_rule_law.specs.Board.{Size, Board, put2}
+use Rattle.pc_rule_law.specs.Past.{Has, Attempt, Past, change, Describes}
+use Rattle.pc_rule_law.specs.Stages.{IsIdle, IsOpen, DecidedBelow}
+use Rattle.pc_rule_law.specs.Views.{View, version, held, clean, IsClean, NoteHolds, AllNotes}
+use Rattle.pc_rule_law.specs.Rule.{Own, Shared}
+use Rattle.pc_rule_law.proofs.Stages.{open_not_idle}
+use Rattle.pc_rule_law.proofs.WordMoves.{WordMoves}
+use Rattle.pc_rule_law.proofs.Outcomes as Outcomes
+use Rattle.pc_protocol.specs.Histories.{for_exchange, for_read, Cause, withdrawn, ended, changed, locked, Stage, absent, undecided, committed, aborted}
+use Rattle.pc_protocol.specs.Histories.{History, value_by}
+use Rattle.pc_protocol.specs.Notes.{clock_was, drew, verdict}
+use Rattle.pc_protocol.specs.Steps.{draw, publish, commit, CanCommit, abort, CanAbort, refer}
+use Rattle.pc_protocol.proofs.Stages.{same_cause}
+use Rattle.pc_exchange_law.specs.Ties.{code, exchange_of}
+use Rattle.pc_exchange_law.specs.Changes.{with_word, with_status, with_next_stamp, with_values, at_stage, stage_by}
+use Rattle.pc_exchange_law.specs.Attempts.{Scripts, OwnsAttempt}
+use Rattle.pc_exchange_law.specs.AttemptSteps.{with_own_word, with_script}
+use Rattle.pc_exchange_law.specs.Passes.{PassKnows, IsKnown}
+use Rattle.pc_exchange_law.specs.Knowing.{after_own_store, after_publication, after_draw, after_refusal, after_decision}
+use Rattle.pc_exchange_law.specs.Knowing.{after_withdrawal, after_clearing}
+use Rattle.pc_exchange_law.specs.ExchangeConditions.{MayStoreOwn, MayPublish, MayDrawFor, MaySucceed, MayFail}
+use Rattle.pc_exchange_law.specs.ExchangeConditions.{MayTakeReference, MayClear}
+use Rattle.pc_exchange_law.specs.Worlds.{World}
+use Rattle.pc_exchange_law.proofs.AttemptNotes.{attempts_are_known}
+use Rattle.pc_exchange_law.proofs.Knowing.{decided_on_board}
+use Rattle.pc_exchange_law.proofs.KnowingSteps.{store_known, publication_known, draw_known, refusal_known, decision_known}
+use Rattle.pc_exchange_law.proofs.KnowingSteps.{withdrawal_known, clearing_known, unchanged_known}
+use Rattle.pc_exchange_law.proofs.Serving.{notes_draw, notes_fail, notes_take, notes_clear}
+use Rattle.pc_exchange_law.proofs.TieDecisions.{may_commit, may_withdraw, may_end}
+use Rattle.pc_exchange_law.proofs.Worlds.{Goes, store_goes, word_goes, draw_goes, other_draw_goes, late_after}
+use Rattle.pc_exchange_law.proofs.WorldStatuses.{is_busy, publish_goes, success_goes, failure_goes, clearing_goes}
+
+no_element : {X : Type 0} (xs : List X) → length xs ≡ 0 → xs ≡ []
+no_element [] e = refl
+no_element (x ∷ xs) e = absurd (omega arith)
+
+one_of_two : (st : Stage) (old new : ℕ) → (value_by st old new ≡ old) ⊎ (value_by st old new ≡ new)
+one_of_two absent old new = inl refl
+one_of_two undecided old new = inl refl
+one_of_two (committed s) old new = inr refl
+one_of_two (aborted cause) old new = inl refl
+
+true_or_false : (c : Bool) → (c ≡ true) ⊎ (c ≡ false)
+true_or_false true = inl refl
+true_or_false false = inr refl
+
+module _ (form : Form) (z : Size) (few : z.seats ≤ 32) (id : ℕ) (b : Board) (t : Past) (w : Scripts) (h : History)
+    (late : ℕ → Bool) (shared : Shared (IsSound form) z b t) (world : World form z b t w h late) (v : View)
+    (own : Own z b.install t.course id v) (noted : AllNotes (NoteHolds z b t) v.notes) (k : PassKnows)
+    (known : IsKnown b t w h late id k) where
+  seated : id < 64
+  seated = let lt = own.seated.1 in omega arith
+
+  my_attempt : OwnsAttempt b h v.seat k.own
+  my_attempt = subst (λ (i : ℕ). OwnsAttempt b h i k.own) (sym own.seated.0) known.own
+
+  number_is : (b.status id).number ≡ k.own.number
+  number_is = known.own.number
+
+  pub store_step : (place x : ℕ) → MayStoreOwn k
+      → Goes form z id b t w h late (with_own_word b id place x) t w h late
+      × IsKnown (with_own_word b id place x) t w h late id (after_own_store k place x)
+  store_step place x rests =
+      let goes = store_goes form z id b t w h late few shared world place x (known.own.resting rests) in
+      (goes, store_known form z id b t w h late k known seated place x rests goes)
+
+  pub publish_step : (x : Attempt) (c : ℕ) (keys : List ℕ) → MayPublish form z k x c keys
+      → let a : ℕ = (b.status id).number + 1 in
+      let b' = with_status b id (record { number = a; stage = Undecided }) in
+      let t' = with_values t t.cells t.plain (put2 t.attempt id a x) (put2 t.words id a (b.word id)) in
+      let w' = with_script w id a (b.word id) in let h' = publish h (code id a) (exchange_of x) c in
+      Goes form z id b t w h late b' t' w' h' late × IsKnown b' t' w' h' late id (after_publication k)
+  publish_step x c keys may =
+      let a : ℕ = (b.status id).number + 1 in
+      let idle = known.own.resting may.rests in
+      let room : a < 2 ^ 28 = let r = may.room in let same = number_is in omega arith in
+      let past : c ≤ b.clock = let seen : c ≤ h.clock = known.told (clock_was c) may.clock in
+      let same : h.clock ≡ b.clock = world.tied.clock in omega arith in
+      let described : Describes z.slots x (b.word id) = subst (Describes z.slots x)
+      (λ i place. sym (known.own.words place) i) may.described in
+      let goes = publish_goes form z id b t w h late shared world seated c x keys idle room past may.formed may.raises
+      may.no_visits described may.fits in (
+        goes,
+        publication_known form z id b t w h late k known seated
+            (with_status b id (record { number = a; stage = Undecided }))
+            (with_values t t.cells t.plain (put2 t.attempt id a x) (put2 t.words id a (b.word id))) (with_script w id a (b.word id)) (exchange_of x) c refl goes,
+      )
+
+  -- a stamp is drawn for an attempt, or refused
+  pub draw_step : (p a : ℕ) → MayDrawFor v k p a
+      → (late' : ℕ → Bool)
+      × (Goes form z id b t w h late (with_next_stamp b) t w (draw h (for_exchange (code p a))) late'
+      × IsKnown (with_next_stamp b) t w (draw h (for_exchange (code p a))) late' id (after_draw k (code p a) h.clock))
+  draw_step p a may =
+      let next = late_after form z id b t w h late few shared world own.seated.1 (known.ready may.ready) in
+      let first = noted (held p a (may.places.each 0 may.some).0 (may.places.each 0 may.some).1) (may.each 0 may.some) in
+      let small : p < 64 = let lt = first.1.0.0 in omega arith in
+      let can = notes_draw z.slots b t w h v.seat k.own k.noted world.scripts my_attempt known.noted world.rule world.tied
+      p a small may.places may.some
+      (λ i below. (noted (held p a (may.places.each i below).0 (may.places.each i below).1) (may.each i below)).0) in
+      let goes = draw_goes form z id b t w h late few shared world next.0 next.1 next.2 (code p a) can in
+      (next.0, (goes, draw_known form z id b t w h late k known seated (code p a) next.0 goes))
+
+  pub refuse_step : k.ready ≡ true
+      → (late' : ℕ → Bool)
+      × (Goes form z id b t w h late (with_next_stamp b) t w (draw h (for_read id)) late'
+      × IsKnown (with_next_stamp b) t w (draw h (for_read id)) late' id (after_refusal k h.clock))
+  refuse_step ready =
+      let next = late_after form z id b t w h late few shared world own.seated.1 (known.ready ready) in
+      let goes = other_draw_goes form z id b t w h late few shared world next.0 next.1 next.2 id in
+      (next.0, (goes, refusal_known form z id b t w h late k known seated id next.0 goes))
+
+  -- an attempt that is decided is busy, where it is the own one
+  own_is_busy : (p : ℕ) → IsOpen (b.status p).stage → p ≡ id → k.own.busy ≡ true
+  own_is_busy p pending e = ⊎_elim (λ busy. busy)
+      (λ rests. absurd (open_not_idle (b.status p).stage pending
+      (subst (λ (i : ℕ). IsIdle (b.status i).stage) (sym e) (known.own.resting rests))))
+      (true_or_false k.own.busy)
+
+  pub success_step : (p s : ℕ) → p < 64 → IsOpen (b.status p).stage → MaySucceed v k p (b.status p).number s
+      → let y : ℕ = code p (b.status p).number in let h' = commit h y s in
+      let b' = with_status b p (at_stage b p (Succeeded s)) in
+      let t' = with_values t h'.plain h'.plain t.attempt t.words in
+      Goes form z id b t w h late b' t' w h' late × IsKnown b' t' w h' late id (after_decision k y (committed s))
+  success_step p s small pending may =
+      let a : ℕ = (b.status p).number in let y : ℕ = code p a in
+      let no_visits : (t.attempt p a).visits ≡ [] =
+      let count = (attempts_are_known z.slots b t w h v.seat k.own k.noted world.scripts my_attempt known.noted).word p a
+      2 0 may.no_visits in
+      let described : Describes z.slots (t.attempt p a) (w p a) = world.scripts.describe p a in
+      no_element (t.attempt p a).visits (sym described.visits ∙ count.1) in
+      let can : CanCommit h y s = may_commit b t h world.tied p a small (refl, pending) s no_visits
+      (known.told (drew y s) may.drawn) in
+      let goes = success_goes form z id b t w h late shared world p small s may.low can in (
+        goes,
+        decision_known form z id b t w h late k known seated p small (Succeeded s) (committed s)
+            (with_values t (commit h y s).plain (commit h y s).plain t.attempt t.words) (commit h y s) (λ i. i) tt (λ i. refl) goes
+            (λ e. (own_is_busy p pending e, λ is. absurd (let clash : committed s ≡ aborted withdrawn = is in cc))),
+      )
+
+  not_of_own_accord : (p a : ℕ) (cause : Cause) → MayFail v k p a cause → cause ≢ withdrawn
+  not_of_own_accord p a withdrawn may is = may
+  not_of_own_accord p a ended may is = absurd (let clash : ended ≡ withdrawn = is in cc)
+  not_of_own_accord p a (changed n) may is = absurd (let clash : changed n ≡ withdrawn = is in cc)
+  not_of_own_accord p a (locked n q) may is = may
+
+  -- a failure that isn't of the pass's own accord
+  may_abort : (p : ℕ) → p < 64 → IsOpen (b.status p).stage → (cause : Cause) → MayFail v k p (b.status p).number cause
+      → CanAbort h (code p (b.status p).number) cause
+  may_abort p small pending withdrawn may = absurd may
+  may_abort p small pending ended may = may_end b t h world.tied p (b.status p).number small (refl, pending)
+      (let seen : may.0 ≤ h.clock = known.told (clock_was may.0) may.1 in let last = may.2 in
+      let same : h.clock ≡ b.clock = world.tied.clock in omega arith)
+  may_abort p small pending (changed n) may = notes_fail z.slots b t w h v.seat k.own k.noted world.scripts my_attempt
+      known.noted world.rule world.tied p (b.status p).number small (refl, pending) may.entry n may.old may.new may.seen
+      may.known (noted (version n may.seen) may.noted).0 may.past
+  may_abort p small pending (locked n q) may = absurd may
+
+  pub failure_step : (p : ℕ) (cause : Cause) → p < 64 → IsOpen (b.status p).stage → StageInRange (stage_by cause)
+      → MayFail v k p (b.status p).number cause
+      → let y : ℕ = code p (b.status p).number in let b' = with_status b p (at_stage b p (stage_by cause)) in
+      Goes form z id b t w h late b' t w (abort h y cause) late
+      × IsKnown b' t w (abort h y cause) late id (after_decision k y (aborted cause))
+  failure_step p cause small pending in_range may =
+      let y : ℕ = code p (b.status p).number in
+      let other = not_of_own_accord p (b.status p).number cause may in
+      let goes = failure_goes form z id b t w h late shared world p small cause in_range
+      (may_abort p small pending cause may) (inr other) in (
+        goes,
+        decision_known form z id b t w h late k known seated p small (stage_by cause) (aborted cause) t
+            (abort h y cause) (is_busy cause) tt (λ i. refl) goes
+            (λ e. (own_is_busy p pending e, λ is. other (same_cause cause withdrawn is))),
+      )
+
+  -- the pass withdraws its own attempt
+  pub withdraw_step : IsOpen (b.status id).stage
+      → let y : ℕ = code id (b.status id).number in let b' = with_status b id (at_stage b id Withdrawn) in
+      Goes form z id b t w h late b' t w (abort h y withdrawn) late
+      × IsKnown b' t w (abort h y withdrawn) late id (after_withdrawal k y (aborted withdrawn))
+  withdraw_step pending =
+      let y : ℕ = code id (b.status id).number in
+      let goes = failure_goes form z id b t w h late shared world id seated withdrawn tt
+      (may_withdraw b t h world.tied id (b.status id).number seated (refl, pending)) (inl refl) in (
+        goes,
+        withdrawal_known form z id b t w h late k known seated t (abort h y withdrawn)
+            (own_is_busy id pending refl) (λ i. refl) goes,
+      )
+
+  -- a number in place of a reference
+  pub take_step : (p a n : ℕ) (f : Field) (x : ℕ) → b.cell n f ≡ Exchange p a → p < 64
+      → MayTakeReference v k p a n f x
+      → let b' = with_word b n f (Plain x) in
+      Goes form z id b t w h late b' t w (refer h n f None) late × IsKnown b' t w (refer h n f None) late id k
+  take_step p a n f x is small may =
+      let entry = (attempts_are_known z.slots b t w h v.seat k.own k.noted world.scripts my_attempt known.noted).entry p a
+      may.entry n f may.old may.new may.known in
+      let told = known.told (verdict (code p a) may.stage) may.decided in
+      let worth : t.plain n f ≡ value_by may.stage may.old may.new = notes_take z.slots b t w h v.seat k.own k.noted
+      world.scripts my_attempt known.noted world.rule world.tied p a may.entry n f may.old may.new may.stage may.known told is in
+      let inside = (shared.formed p a).inside (change n f may.old may.new) entry.1 in
+      let fits_word : t.plain n f < 2 ^ 62 = ⊎_elim
+      (λ e. let low = inside.1 in omega arith) (λ e. let low = inside.2 in omega arith)
+      (one_of_two may.stage may.old may.new) in
+      let moves : WordMoves z b t id n f (Plain (t.plain n f)) t.placing t.course = Outcomes.takes_reference
+      (IsSound form) z b t shared id p n f a is (decided_on_board b t h world.tied p a may.stage small told) fits_word in
+      let same : t.plain n f ≡ x = worth ∙ sym may.worth in
+      let moves_x : WordMoves z b t id n f (Plain x) t.placing t.course = subst
+      (λ (i : ℕ). WordMoves z b t id n f (Plain i) t.placing t.course) same moves in
+      let goes = word_goes form z id b t w h late few shared world n f (Plain x) t.placing t.course moves_x in (
+        goes,
+        unchanged_known form z id b t w h late k known seated (with_word b n f (Plain x)) t (refer h n f None)
+            (λ q. refl) (λ q place. refl) (λ y. refl) goes,
+      )
+
+  -- the own attempt is cleared
+  pub clear_step : MayClear v k
+      → let b' = with_status b id (at_stage b id Idle) in
+      Goes form z id b t w h late b' t w h late × IsKnown b' t w h late id (after_clearing k)
+  clear_step may =
+      let a : ℕ = (b.status id).number in
+      let to_id : ℕ × ℕ → Type 0 = λ i. (x : Changed) → Has (t.attempt i.0 i.1).changes x
+      → IsClean t.placing i.0 i.1 (b.cell x.node x.field) in
+      let clean_there : (x : Changed) → Has (t.attempt v.seat k.own.number).changes x
+      → IsClean t.placing v.seat k.own.number (b.cell x.node x.field) = notes_clear z.slots b t w h v.seat k.own k.noted
+      world.scripts my_attempt known.noted world.rule world.tied v.seat k.own.number may.places
+      (λ i below. (noted (clean v.seat k.own.number (may.places.each i below).0 (may.places.each i below).1)
+      (may.each i below)).0) in
+      let clean_here : (x : Changed) → Has (t.attempt id a).changes x → IsClean t.placing id a (b.cell x.node x.field) =
+      subst to_id (λ i. (own.seated.0 i, sym number_is i)) clean_there in
+      let closed : IsOpen (b.status id).stage → ⊥ = λ o.
+      let told = known.told (verdict (code v.seat k.own.number) may.stage) may.decided in
+      let small : v.seat < 64 = let lt = seated in let e = own.seated.0 in omega arith in
+      let over : DecidedBelow b.status v.seat (k.own.number + 1) = decided_on_board b t h world.tied v.seat k.own.number may.stage
+      small told in
+      (subst (λ (i : ℕ × ℕ). DecidedBelow b.status i.0 (i.1 + 1)) (λ i. (own.seated.0 i, sym number_is i)) over).1 refl o in
+      let goes = clearing_goes form z id b t w h late shared world closed clean_here in
+      (goes, clearing_known form z id b t w h late k known seated goes)

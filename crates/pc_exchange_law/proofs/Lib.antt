@@ -1,0 +1,32 @@
+pub mod AttemptNotes
+pub mod AttemptSteps
+pub mod Calms
+pub mod ChangeLists
+pub mod ClockEnds
+pub mod Codes
+pub mod ExchangeLaws
+pub mod ExchangeSteps
+pub mod Knowing
+pub mod KnowingSteps
+pub mod NoteLists
+pub mod OwnAttempts
+pub mod Passes
+pub mod Serving
+pub mod Statuses
+pub mod TieDecisions
+pub mod TieDraws
+pub mod TieMoves
+pub mod TieOpenings
+pub mod TiePublishing
+pub mod TieRuns
+pub mod TieSuccesses
+pub mod TieTelling
+pub mod TieWords
+pub mod Ties
+pub mod WordsSeen
+mod WorkedAttempts
+mod WorkedExchange
+mod WorkedOpening
+mod WorkedSteps
+pub mod WorldStatuses
+pub mod Worlds

@@ -1,0 +1,173 @@
+-- A pass's attempt is decided: it takes effect at a stamp, or fails for a cause. And a decided one is cleared, which
+-- is no step of the protocol.
+use Rattle.std.proofs.Common.{◌≡◌, ℕ, ◌<◌, ◌≤◌, inr, ⊎_elim, [], Option, Some, None, refl, sym, ◌∙◌, subst, arith}
+use Rattle.pc_model.specs.declared.cell.Field.{Field}
+use Rattle.pc_model.specs.declared.cell.Field.TheVariants.{Version}
+use Rattle.pc_model.specs.Cells.{Cells}
+use Rattle.pc_model.specs.Exchanges.{FreshNode, Exchange as PathExchange}
+use Rattle.pc_words.specs.declared.status.Stage.{Stage as StatusStage}
+use Rattle.pc_words.specs.declared.status.Stage.TheVariants.{Idle, Succeeded}
+use Rattle.pc_history.specs.Footprints.{IsAmong}
+use Rattle.pc_history.specs.Updates.{updated}
+use Rattle.pc_history.proofs.Updates.{on_updated, from_updated}
+use Rattle.pc_rule_law.specs.Board.{Board, put}
+use Rattle.pc_rule_law.specs.Past.{Has, Past, change}
+use Rattle.pc_rule_law.specs.Stages.{IsOpen, IsUndecided as IsUndecidedAttempt}
+use Rattle.pc_rule_law.proofs.Updates.{at_put}
+use Rattle.pc_protocol.specs.Histories.{Cause, withdrawn, ended, changed, Stage, committed, aborted, Slot, used, History}
+use Rattle.pc_protocol.specs.Histories.{IsPublished, IsUndecided, IsUsed}
+use Rattle.pc_protocol.specs.Rules.{Rule}
+use Rattle.pc_protocol.specs.Notes.{drew, IsTrueNote}
+use Rattle.pc_protocol.specs.Steps.{slots_with, commit, CanCommit, abort, CanAbort}
+use Rattle.pc_protocol.proofs.Stages.{undecided_is_published, used_not_spare}
+use Rattle.pc_protocol.proofs.Commits.{commit_keeps}
+use Rattle.pc_protocol.proofs.Aborts.{abort_keeps}
+use Rattle.pc_exchange_law.specs.Ties.{code, last_stamp, IsStageOf, SaysOf, exchange_of, IsTied}
+use Rattle.pc_exchange_law.specs.Changes.{with_status, with_values, at_stage, stage_by, Leads}
+use Rattle.pc_exchange_law.proofs.ChangeLists.{has_among}
+use Rattle.pc_exchange_law.proofs.TieDraws.{nothing_changes}
+use Rattle.pc_exchange_law.proofs.Statuses.{undecided_in_history, undecided_is_open, stages_moved, still_published, others_say, says_now, cause_is_told}
+
+-- the slot of a fresh node is used, and so are all others that were
+pub used_with : (g : Option FreshNode) (slot : ℕ → Slot) → ((n : ℕ) → IsUsed (slot n)) → (n : ℕ)
+    → IsUsed (slots_with g slot n)
+used_with None slot each n = each n
+used_with (Some g) slot each n = on_updated slot g.node used IsUsed n (λ _. tt) (λ _. each n)
+
+module _ (b : Board) (t : Past) (h : History) (tied : IsTied b t h) (p : ℕ) (small : p < 64) where
+  abbrev x : ℕ
+  x = code p (b.status p).number
+
+  -- what is published after the decision was so before
+  pub published_before : (st : Stage) → IsUndecided (h.stage x) → (y : ℕ) → IsPublished (updated h.stage x st y)
+      → IsPublished (h.stage y)
+  published_before st u y published = ⊎_elim
+      (λ here. subst (λ (i : ℕ). IsPublished (h.stage i)) (sym here.0) (undecided_is_published (h.stage x) u))
+      (λ other. other.1)
+      (from_updated h.stage x st IsPublished y published)
+
+  decided_stages : (stage : StatusStage) (st : Stage) → IsStageOf stage st → (q c : ℕ) → q < 64
+      → SaysOf (put b.status p (at_stage b p stage) q) c (updated h.stage x st (code q c))
+  decided_stages stage st is = stages_moved b t h tied p (at_stage b p stage) st small
+      (says_now (at_stage b p stage) st is) (others_say b t h tied p stage small)
+
+  module _ (s : ℕ) (cells' plain' : Cells) (can : CanCommit h x s)
+      (same : (n : ℕ) (f : Field) → plain' n f ≡ (commit h x s).plain n f) where
+    committed_tied : IsTied (with_status b p (at_stage b p (Succeeded s))) (with_values t cells' plain' t.attempt t.words)
+        (commit h x s)
+    committed_tied = record {
+      clock = tied.clock;
+      last = tied.last;
+      owners = tied.owners;
+      references = tied.references;
+      seated = tied.seated;
+      plain = λ n f. sym (same n f);
+      stages = decided_stages (Succeeded s) (committed s) refl;
+      published = still_published b t h tied p (Succeeded s) (committed s) tt;
+      exchanges = λ q c low published. tied.exchanges q c low
+          (published_before (committed s) can.undecided (code q c) published);
+      used = used_with (h.op x).fresh h.slot tied.used;
+      uncleared = tied.uncleared;
+    }
+
+    pub success_leads : Rule h → Leads h (with_status b p (at_stage b p (Succeeded s)))
+        (with_values t cells' plain' t.attempt t.words) (commit h x s)
+    success_leads rule = record { keeps = commit_keeps h rule x s can; tied = committed_tied }
+
+  module _ (cause : Cause) (can : CanAbort h x cause) where
+    aborted_tied : IsTied (with_status b p (at_stage b p (stage_by cause))) t (abort h x cause)
+    aborted_tied = record {
+      clock = tied.clock;
+      last = tied.last;
+      owners = tied.owners;
+      references = tied.references;
+      seated = tied.seated;
+      plain = tied.plain;
+      stages = decided_stages (stage_by cause) (aborted cause) (cause_is_told cause);
+      published = still_published b t h tied p (stage_by cause) (aborted cause) tt;
+      exchanges = λ q c low published. tied.exchanges q c low
+          (published_before (aborted cause) can.undecided (code q c) published);
+      used = tied.used;
+      uncleared = tied.uncleared;
+    }
+
+    pub failure_leads : Rule h → Leads h (with_status b p (at_stage b p (stage_by cause))) t (abort h x cause)
+    failure_leads rule = record { keeps = abort_keeps h rule x cause can; tied = aborted_tied }
+
+-- a status that isn't undecided becomes idle
+module _ (b : Board) (t : Past) (h : History) (tied : IsTied b t h) (p : ℕ) (closed : IsOpen (b.status p).stage → ⊥) where
+  abbrev cleared_board : Board
+  cleared_board = with_status b p (at_stage b p Idle)
+
+  idle_stages : (q c : ℕ) → q < 64 → SaysOf (cleared_board.status q) c (h.stage (code q c))
+  idle_stages q c low = at_put b.status p (at_stage b p Idle) (λ r s. r < 64 → SaysOf s c (h.stage (code r c))) q
+      (λ small. let says = tied.stages p c small in record {
+        before = says.before;
+        present = λ e u. closed (undecided_is_open (b.status p).stage (h.stage (code p c)) (says.present e) u);
+        later = says.later;
+      })
+      (λ _ small. tied.stages q c small)
+      low
+
+  cleared_tied : IsTied cleared_board t h
+  cleared_tied = record {
+    clock = tied.clock;
+    last = tied.last;
+    owners = tied.owners;
+    references = tied.references;
+    seated = tied.seated;
+    plain = tied.plain;
+    stages = idle_stages;
+    published = λ q c y low le has. tied.published q c y low (at_put b.status p (at_stage b p Idle)
+        (λ r s. c ≤ s.number → c ≤ (b.status r).number) q (λ l. l) (λ _ l. l) le) has;
+    exchanges = tied.exchanges;
+    used = tied.used;
+    uncleared = tied.uncleared;
+  }
+
+  pub clearing_leads : Rule h → Leads h cleared_board t h
+  clearing_leads rule = record { keeps = nothing_changes h rule; tied = cleared_tied }
+
+-- What a decision owes
+module _ (b : Board) (t : Past) (h : History) (tied : IsTied b t h) (p a : ℕ) (small : p < 64)
+    (u : IsUndecidedAttempt b.status p a) where
+  undecided_there : IsUndecided (h.stage (code p a))
+  undecided_there = undecided_in_history b t h tied p a small u
+
+  is_exchange : h.op (code p a) ≡ exchange_of (t.attempt p a)
+  is_exchange = tied.exchanges p a small (undecided_is_published (h.stage (code p a)) undecided_there)
+
+  pub may_commit : (s : ℕ) → (t.attempt p a).visits ≡ [] → IsTrueNote h (drew (code p a) s) → CanCommit h (code p a) s
+  may_commit s no_visits drawn = record {
+    undecided = undecided_there;
+    drew = drawn;
+    checked = λ v among. absurd (subst (IsAmong v) no_visits
+        (subst (λ (e : PathExchange). IsAmong v e.visits) is_exchange among));
+  }
+
+  pub may_withdraw : CanAbort h (code p a) withdrawn
+  may_withdraw = record { undecided = undecided_there; cause = tt }
+
+  pub may_end : last_stamp ≤ b.clock → CanAbort h (code p a) ended
+  may_end late = record {
+    undecided = undecided_there;
+    cause = let same : h.clock ≡ b.clock = tied.clock in let end : h.last ≡ last_stamp = tied.last in omega arith;
+  }
+
+  pub may_fail : Rule h → (n v new : ℕ) → Has (t.attempt p a).changes (change n Version v new) → v < t.plain n Version
+      → CanAbort h (code p a) (changed n)
+  may_fail rule n v new has less = record {
+    undecided = undecided_there;
+    cause = (
+      v,
+      inr (record {
+        change = change n Version v new;
+        among = subst (λ (e : PathExchange). IsAmong (change n Version v new) e.changes) (sym is_exchange)
+            (has_among (t.attempt p a).changes (change n Version v new) has);
+        is_of = (refl, refl);
+        old = refl;
+      }),
+      subst (λ (i : ℕ). v < i) (sym (tied.plain n Version)
+          ∙ rule.plain_is n Version (used_not_spare (h.slot n) (tied.used n))) less,
+    );
+  }

@@ -1,0 +1,215 @@
+-- The law of the steps of an exchange on a worked board: it opens, its first pass reads the clock and stores its
+-- descriptor, and publishes an exchange that raises a version. What comes of that is in WorkedSteps.
+use Rattle.std.proofs.Common.{◌≡◌, ℕ, zero, suc, ◌+◌, ◌*◌, ◌^◌, ◌<◌, ◌≤◌, inl, ⊎_elim, Bool, true, false, [], ◌∷◌, refl, sym, subst, arith}
+use mathlib.Core.Option.{some, some-injective, some-ne-none}
+use lib.ListN.{get_elem?}
+use Rattle.pc_model.specs.declared.cell.Field.TheVariants.{Version}
+use Rattle.pc_model.specs.Cells.{Cells}
+use Rattle.pc_model.specs.Exchanges.{Changed}
+use Rattle.pc_model.specs.Forms.{Form, IsSound, Fits}
+use Rattle.pc_words.specs.declared.status.Stage.TheVariants.{Undecided}
+use Rattle.pc_history.specs.Footprints.{RaisesVersionOf}
+use Rattle.pc_rule_law.specs.Board.{Size, Board, place_number, put2}
+use Rattle.pc_rule_law.specs.Past.{Attempt, Past, change, Describes, IsFormed}
+use Rattle.pc_rule_law.specs.Views.{View, NoteHolds, AllNotes}
+use Rattle.pc_rule_law.specs.Rule.{Own, Kept}
+use Rattle.pc_rule_law.specs.Openings.{opening_board, opening_attempt, attempt_of, MayOpen, opening_words}
+use Rattle.pc_rule_law.specs.Seats.{opening_past, new_view}
+use Rattle.pc_rule_law.proofs.Lists.{all_one, all_none, none_has}
+use Rattle.pc_rule_law.proofs.Openings.{may_open}
+use Rattle.pc_rule_law.proofs.Seats.{opens}
+use Rattle.pc_protocol.specs.Histories.{History}
+use Rattle.pc_protocol.specs.Steps.{publish}
+use Rattle.pc_exchange_law.specs.Ties.{exchange_of}
+use Rattle.pc_exchange_law.specs.Changes.{with_status, with_values, RaisesNodes}
+use Rattle.pc_exchange_law.specs.TieLaws.{opening_history}
+use Rattle.pc_exchange_law.specs.Attempts.{Scripts, word_in}
+use Rattle.pc_exchange_law.specs.AttemptSteps.{with_own_word, with_script, no_scripts}
+use Rattle.pc_exchange_law.specs.Passes.{PassKnows, IsKnown}
+use Rattle.pc_exchange_law.specs.Knowing.{after_clock, after_own_store, after_publication}
+use Rattle.pc_exchange_law.specs.Worlds.{World}
+use Rattle.pc_exchange_law.specs.ExchangeLaws.{Comes, ExchangeStepsGoOn}
+use Rattle.pc_exchange_law.proofs.ExchangeLaws.{exchange_steps_go_on}
+use Rattle.pc_exchange_law.proofs.Passes.{knows_nothing, world_opens, known_at_opening}
+use Rattle.pc_exchange_law.proofs.WordsSeen.{loads_tell_passes}
+
+-- cells of any shape
+abbrev pub any_form : Form
+any_form = record { sound = λ slots c ps. Unit {0}; in_debt = λ slots c k. ⊥ }
+
+abbrev pub two : Size
+two = record { seats = 2; slots = 1; starts = record { attempt = 3; install = 0; stamp = 5; epoch = 1; version = 0 } }
+
+abbrev pub zeros : Cells
+zeros n f = 0
+
+abbrev pub raise : Changed
+raise = change 1 Version 0 2
+
+abbrev pub to_raise : Attempt
+to_raise = record { mode = 0; changes = raise ∷ []; visits = [] }
+
+pub the_change : (i : ℕ) (x : Changed) → get_elem? to_raise.changes i ≡ some x → i ≡ 0
+the_change zero x at = refl
+the_change (suc i) x at = absurd (some-ne-none x (sym at))
+
+pub formed : IsFormed 1 to_raise
+formed = record {
+  few = omega arith;
+  few_visits = omega arith;
+  inside = all_one (λ x. ((1 ≤ x.node) × (x.node ≤ 2)) × (x.old < 2 ^ 62) × (x.new < 2 ^ 62)) raise
+      ((omega arith, omega arith), omega arith, omega arith);
+  apart = λ i j x y at_i at_j _ _. let e = the_change i x at_i in let d = the_change j y at_j in omega arith;
+}
+
+pub raises : RaisesNodes to_raise
+raises a among = ⊎_elim
+    (λ e. subst (λ (y : Changed). RaisesVersionOf (exchange_of to_raise) y.node) (sym e)
+    (record { change = raise; among = inl refl; is_of = (refl, refl); rises = inl (omega arith) }))
+    (λ none'. absurd none') among
+
+pub fits : Fits any_form 1 (exchange_of to_raise) []
+fits = record { leaves = λ c sound stands. ([], tt); charges = λ c k sound stands debt. absurd debt }
+
+-- ---- the board opens, and the pass at seat 0 reads the clock
+
+pub empty_formed : IsFormed 1 (attempt_of [])
+empty_formed = record {
+  few = omega arith;
+  few_visits = omega arith;
+  inside = λ x has. absurd (none_has x has);
+  apart = λ i j x y at. absurd (some-ne-none x (sym at));
+}
+
+pub opening : MayOpen (IsSound any_form) two zeros false []
+opening = record {
+  seats = (omega arith, omega arith);
+  sound_cells = ([], tt);
+  small = λ n f. omega arith;
+  attempt = omega arith;
+  few = omega arith;
+  none = λ _. refl;
+  formed = λ p. empty_formed;
+}
+
+abbrev pub b0 : Board
+b0 = opening_board two zeros []
+
+abbrev pub t0 : Past
+t0 = opening_past zeros (opening_attempt []) (opening_words []) false
+
+abbrev pub h0 : History
+h0 = opening_history zeros 5
+
+abbrev pub none_late : ℕ → Bool
+none_late j = false
+
+abbrev pub v0 : View
+v0 = new_view two 0 false []
+
+pub kept0 : Kept (IsSound any_form) two b0 t0 (v0 ∷ [])
+kept0 = opens (IsSound any_form) two b0 zeros (opening_attempt []) (opening_words []) false []
+    (may_open (IsSound any_form) two zeros false [] opening)
+
+pub own0 : Own two b0.install t0.course 0 v0
+own0 = (kept0.each_view 0 v0 refl).own refl
+
+pub world0 : World any_form two b0 t0 no_scripts h0 none_late
+world0 = world_opens any_form two zeros ([], tt) (omega arith)
+
+abbrev pub k0 : PassKnows
+k0 = after_clock (knows_nothing 3) 5 true
+
+pub known0 : IsKnown b0 t0 no_scripts h0 none_late 0 k0
+known0 = (loads_tell_passes 1 2 b0 t0 no_scripts h0 none_late 0 (knows_nothing 3) world0.scripts world0.rule world0.tied
+    world0.clock (known_at_opening any_form two zeros 0)).clock true (λ _. omega arith)
+
+-- what follows from a step
+pub steps : (b : Board) (t : Past) (w : Scripts) (h : History) (late : ℕ → Bool) (b' : Board) (t' : Past) (w' : Scripts)
+    (h' : History) (late' : ℕ → Bool) (k' : PassKnows) (v : View)
+    → Comes any_form two 0 b t w h late b' t' w' h' late' k' → Own two b'.install t'.course 0 v
+    → AllNotes (NoteHolds two b' t') v.notes → ExchangeStepsGoOn any_form two 0 b' t' w' h' late' v k'
+steps b t w h late b' t' w' h' late' k' v c own noted = exchange_steps_go_on any_form two 0 b' t' w' h' late' v k'
+    (omega arith) c.shared c.world own noted c.known
+
+-- the own install is as at the opening, whatever is noted
+pub owns : (v : View) → v ≡ record v0 { notes = v.notes } → Own two b0.install t0.course 0 v
+owns v is = subst (Own two b0.install t0.course 0) (sym is) (record { sized = own0.sized; seated = own0.seated; known = own0.known; ahead = own0.ahead; unplaced = own0.unplaced })
+
+-- ---- the words of the descriptor: one change, of the version of node 1, from 0 to 2
+
+abbrev pub b1 : Board
+b1 = with_own_word b0 0 1 1
+
+abbrev pub b2 : Board
+b2 = with_own_word b1 0 3 8
+
+abbrev pub b3 : Board
+b3 = with_own_word b2 0 5 2
+
+abbrev pub k1 : PassKnows
+k1 = after_own_store k0 1 1
+
+abbrev pub k2 : PassKnows
+k2 = after_own_store k1 3 8
+
+abbrev pub k3 : PassKnows
+k3 = after_own_store k2 5 2
+
+pub step1 : Comes any_form two 0 b0 t0 no_scripts h0 none_late b1 t0 no_scripts h0 none_late k1
+step1 = (exchange_steps_go_on any_form two 0 b0 t0 no_scripts h0 none_late v0 k0 (omega arith) kept0.shared world0 own0
+    (all_none (NoteHolds two b0 t0)) known0).stores 1 1 refl
+
+pub step2 : Comes any_form two 0 b1 t0 no_scripts h0 none_late b2 t0 no_scripts h0 none_late k2
+step2 = (steps b0 t0 no_scripts h0 none_late b1 t0 no_scripts h0 none_late k1 v0 step1 own0
+    (all_none (NoteHolds two b1 t0))).stores 3 8 refl
+
+pub step3 : Comes any_form two 0 b2 t0 no_scripts h0 none_late b3 t0 no_scripts h0 none_late k3
+step3 = (steps b1 t0 no_scripts h0 none_late b2 t0 no_scripts h0 none_late k2 v0 step2 own0
+    (all_none (NoteHolds two b2 t0))).stores 5 2 refl
+
+-- ---- publication, as attempt 4
+
+pub described : Describes 1 to_raise (word_in k3.own.words)
+described = record {
+  mode = refl;
+  changes = refl;
+  visits = refl;
+  each_change = entry;
+  each_visit = λ i x at. absurd (some-ne-none x (sym at));
+}
+  where
+    entry : (i : ℕ) (x : Changed) → get_elem? to_raise.changes i ≡ some x
+        → (word_in k3.own.words (3 + 3 * i) ≡ place_number x.node x.field)
+        × (word_in k3.own.words (4 + 3 * i) ≡ x.old) × (word_in k3.own.words (5 + 3 * i) ≡ x.new)
+    entry zero x at = subst (λ (y : Changed). (8 ≡ place_number y.node y.field) × (0 ≡ y.old) × (2 ≡ y.new))
+        (some-injective raise x at) (refl, refl, refl)
+    entry (suc i) x at = absurd (some-ne-none x (sym at))
+
+abbrev pub b4 : Board
+b4 = with_status b3 0 (record { number = 4; stage = Undecided })
+
+abbrev pub t4 : Past
+t4 = with_values t0 zeros zeros (put2 t0.attempt 0 4 to_raise) (put2 t0.words 0 4 (b3.word 0))
+
+abbrev pub w4 : Scripts
+w4 = with_script no_scripts 0 4 (b3.word 0)
+
+abbrev pub h4 : History
+h4 = publish h0 256 (exchange_of to_raise) 5
+
+abbrev pub k4 : PassKnows
+k4 = after_publication k3
+
+pub step4 : Comes any_form two 0 b3 t0 no_scripts h0 none_late b4 t4 w4 h4 none_late k4
+step4 = (steps b2 t0 no_scripts h0 none_late b3 t0 no_scripts h0 none_late k3 v0 step3 own0
+    (all_none (NoteHolds two b3 t0))).publishes to_raise 5 [] (record {
+      rests = refl;
+      room = omega arith;
+      clock = (0, refl);
+      formed = formed;
+      raises = raises;
+      no_visits = refl;
+      described = described;
+      fits = fits;
+    })

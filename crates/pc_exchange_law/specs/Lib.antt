@@ -1,0 +1,12 @@
+pub mod AttemptLaws
+pub mod AttemptSteps
+pub mod Attempts
+pub mod Changes
+pub mod ClockEnds
+pub mod ExchangeConditions
+pub mod ExchangeLaws
+pub mod Knowing
+pub mod Passes
+pub mod TieLaws
+pub mod Ties
+pub mod Worlds

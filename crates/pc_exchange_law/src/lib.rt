@@ -1,0 +1,16 @@
+//! The tie between the words of a board and the protocol of exchanges: when a history of the protocol is that of a
+//! board, whose past is remembered, and that each step on the board's words is a step of the protocol, or none. It has
+//! definitions and laws alone, the laws each on a function with no code, and nothing that runs.
+//!
+//! Beside it stand what a pass will know of attempts, its own and those of others, and what it has to know before each
+//! step of an exchange. The board's rule does not use this yet, and nothing in it is changed.
+#![tactic(auto)]
+
+mod laws;
+
+pub use laws::{
+    attempt_notes_stay, attempts_are_known, board_tells, calms_serve, clock_ends,
+    codes_are_inverse, descriptors_are_scripts, exchange_steps_go_on, loads_tell_passes,
+    openings_are_tied, own_steps_are_known, plain_values_are_sound, run_tells, steps_keep_attempts,
+    steps_stay_tied, successes_serve, words_serve,
+};
