@@ -1,5 +1,5 @@
 -- The run of a tied board: its list, and that it leaves the plain values, which are sound where each exchange fits.
-use Rattle.std.proofs.Common.{◌≡◌, ℕ, ◌<◌, ◌⊎◌, inl, inr, ⊎_elim, Some, refl, sym, ap, ◌∙◌, subst}
+use Rattle.std.proofs.Common.{◌≡◌, ℕ, ◌<◌, inl, inr, ⊎_elim, Some, refl, sym, ap, ◌∙◌, subst}
 use Rattle.pc_model.specs.declared.cell.Field.{Field}
 use Rattle.pc_model.specs.Exchanges.{Exchange as PathExchange}
 use Rattle.pc_model.specs.Forms.{Form, IsSound, Fits}

@@ -2,7 +2,6 @@
 -- reference, draws, succeeds, takes its reference away and is cleared, each time from what the pass knows. So the
 -- conditions can be met.
 use Rattle.std.proofs.Common.{◌≡◌, ℕ, zero, suc, ◌+◌, ◌*◌, ◌<◌, inl, inr, Bool, [], ◌∷◌, Some, None, refl, sym, subst, arith}
-use mathlib.Core.Option.{some}
 use Rattle.pc_model.specs.declared.cell.Field.{Field}
 use Rattle.pc_model.specs.declared.cell.Field.TheVariants.{Version}
 use Rattle.pc_words.specs.declared.word.WordKind.TheVariants.{Plain, Exchange}

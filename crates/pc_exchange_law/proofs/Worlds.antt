@@ -1,6 +1,6 @@
 -- Each kind of step, whole but for views: from what it owes follow the topics of the board's rule and of the world
 -- afterwards, that nothing is taken back, and what is left to the passes of other seats.
-use Rattle.std.proofs.Common.{◌≡◌, ◌≢◌, ℕ, suc, ◌≤◌, ◌⊎◌, ⊎_elim, Bool, refl, sym, ◌∙◌, subst, arith, ◌<◌, true, false}
+use Rattle.std.proofs.Common.{◌≡◌, ◌≢◌, ℕ, suc, ◌≤◌, ⊎_elim, Bool, refl, sym, ◌∙◌, subst, arith, ◌<◌, true, false}
 use Rattle.std.proofs.lemmas.Bool.{cases_eq, cases_lt}
 use Rattle.pc_model.specs.declared.cell.Field.{Field}
 use Rattle.pc_model.specs.Forms.{Form, IsSound, Fits}
@@ -12,7 +12,6 @@ use Rattle.pc_rule_law.specs.Rule.{Shared}
 use Rattle.pc_rule_law.proofs.Updates.{put-else, put2-else}
 use Rattle.pc_rule_law.proofs.Keeping.{Grows, Leaves}
 use Rattle.pc_rule_law.proofs.WordMoves.{WordMoves, word_shared, word_grows, word_leaves}
-use Rattle.pc_rule_law.proofs.Outcomes as Outcomes
 use Rattle.pc_protocol.specs.Histories.{Purpose, for_exchange, for_read}
 use Rattle.pc_protocol.specs.Histories.{History}
 use Rattle.pc_protocol.specs.Steps.{Keeps, draw, CanDraw, refer}
