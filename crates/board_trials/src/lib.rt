@@ -9,4 +9,6 @@ mod installs;
 #[cfg(test)]
 mod meetings;
 #[cfg(test)]
+mod steps;
+#[cfg(test)]
 mod words;

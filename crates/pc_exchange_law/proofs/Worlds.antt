@@ -139,8 +139,12 @@ module _ (form : Form) (z : Size) (id : ℕ) (b : Board) (t : Past) (w : Scripts
         descriptors = λ q k c e. (e, λ i. refl);
         clock = omega arith;
         words = λ p a le l. refl;
-        written = λ p a le e busy. (e, busy, λ l. put2-else b.word id place p l x
-            (λ is _. busy (subst (λ (i : ℕ). IsIdle (b.status i).stage) (sym is) rests)));
+        written = λ p a le e busy. (
+          e,
+          busy,
+          λ l. put2-else b.word id place p l x
+              (λ is _. busy (subst (λ (i : ℕ). IsIdle (b.status i).stage) (sym is) rests)),
+        );
       };
       attempts = (steps_keep_attempts b t w).stores id place x rests;
       leaves = record { count = refl; lives = λ j. refl; install = λ j ne i. refl; unplaced = λ j ne k e. e; absent = λ j ne k e. e; posted = refl; tries = λ j ne. record { number = refl; idle = λ i. i; busy = λ i. i; words = λ l. put2-else b.word id place j l x (λ is _. ne is) } };

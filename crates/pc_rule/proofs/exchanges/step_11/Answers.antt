@@ -12,8 +12,7 @@ use Rattle.pc_rule.proofs.exchanges.step_11.Goals as goal
 pub store-requires : goal.store-requires
 store-requires g c = let key = c.args.board.now.table.shared.key in let z : Size = size_of key in let v : View = c.args.pass.now.seat.me.0 in let p : Place = at_own v.seat own_status in
     let n : c.args.pass.now.index ≡ v.seat = sym c.args.pass.now.numbered in
-    let inside : Inside z p = (c.requires.pass.2, tt) in
-    (
+    let inside : Inside z p = (c.requires.pass.2, tt) in (
       c.requires.pass.0,
       rw (c.own_word-word.ensures, n, c.args.board.now.wide.0) (within z p inside),
       rw (c.own_word-word.ensures, n, c.requires.may.1) (publish_attempt (sound_cells g.H.Shape.form key) z _ _ c.args.pass.now.seat.me c.requires.may.0 c.requires.pass.1 c.args.pass.now.live c.requires.may.2 inside),
