@@ -310,6 +310,11 @@ const LIFTS: &[Case] = &[
 #[test]
 fn plans_of_the_balanced_tree_ask_as_the_tables_say(rt: HostRuntime) {
     all_hold(&rt, &first_of_each([ANSWERS, PUTS, UNLINKS, LIFTS]));
+    call_laws();
+}
+
+// The laws can be called.
+fn call_laws() {
     plans_stand_for_their_calls();
     plans_end_as_their_calls_do();
 }

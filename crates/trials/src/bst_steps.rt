@@ -247,6 +247,11 @@ fn plans_of_the_plain_tree_ask_as_the_tables_say(rt: HostRuntime) {
 fn a_plan_can_be_asked_in_one_value(rt: HostRuntime) {
     let asked = BstGet::begin(10).next(Told::Begin);
     assert!(rt; matches!(asked, Ask::Visit(1)));
+    call_laws();
+}
+
+// The laws can be called.
+fn call_laws() {
     plans_stand_for_their_calls();
     plans_end_as_their_calls_do();
     plans_charge_nothing();

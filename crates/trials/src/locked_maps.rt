@@ -145,7 +145,8 @@ fn is_settled<R: Wait>(rt: &R, alloc: Global, taking: Taking) -> bool {
         Ok(map) => {
             let put = are_put_and_settled(rt, &map, taking);
             let mut state = map.into_state();
-            put && !pay(&mut state) && has_shape(alloc, &state, WHOLE)
+            let owes = pay(&mut state);
+            put && !owes && has_shape(alloc, &state, WHOLE)
         }
         Err(_) => false,
     }

@@ -68,21 +68,35 @@ fn begins(script: &Script, first: Call) -> bool {
     }
 }
 
+fn have_their_bytes(alloc: Global) -> bool {
+    is_text(make_script(alloc, 0, 1, 3), THREE) && is_text(make_script(alloc, 7, 2, 2), TWO_OF_TWO)
+}
+
+fn are_written_so(alloc: Global) -> bool {
+    three_are_written_so(alloc, 100, 1, Ok(()), THREE)
+        && three_are_written_so(alloc, 100, 100, Ok(()), THREE)
+        && three_are_written_so(alloc, 12, 5, Err(Failed), b"client 1\ncei")
+}
+
+// Whether the script of a seed for the most clients has its length, and its commands.
+fn is_read_back(alloc: Global) -> bool {
+    match make_script(alloc, 7, 32, 500) {
+        Ok(bytes) => {
+            bytes.len() == 172_542 && are_read_so(alloc, &bytes, 32, 500, FIRST_OF_SEVEN)
+        }
+        Err(_) => false,
+    }
+}
+
 #[test]
 fn made_scripts_have_their_bytes_and_read_back(rt: HostRuntime) {
     let alloc = rt.alloc();
-    assert!(&rt; is_text(make_script(alloc, 0, 1, 3), THREE));
-    assert!(&rt; is_text(make_script(alloc, 7, 2, 2), TWO_OF_TWO));
-    assert!(&rt; three_are_written_so(alloc, 100, 1, Ok(()), THREE));
-    assert!(&rt; three_are_written_so(alloc, 100, 100, Ok(()), THREE));
-    assert!(&rt; three_are_written_so(alloc, 12, 5, Err(Failed), b"client 1\ncei"));
-    match make_script(alloc, 7, 32, 500) {
-        Ok(bytes) => {
-            assert_eq!(&rt; bytes.len(), 172_542);
-            assert!(&rt; are_read_so(alloc, &bytes, 32, 500, FIRST_OF_SEVEN));
-        }
-        Err(_) => assert!(&rt; false),
-    }
+    assert!(&rt; have_their_bytes(alloc) && are_written_so(alloc) && is_read_back(alloc));
+    call_laws();
+}
+
+// The laws can be called.
+fn call_laws() {
     made_scripts_read_back();
     written_clients_read_back();
 }

@@ -1,9 +1,8 @@
 //! What `serve_make` answers and writes, over sinks in memory.
-use super::*;
-use pc_edge::MemorySink;
-use serve::{STOPPED, WRITTEN};
-use std::alloc::AllocError;
-use std::process::Abort;
+use crate::serving::{sink_of, strings_of};
+use crate::tables::all_hold;
+use pc_serve::{STOPPED, WRITTEN, serve_make};
+use std::alloc::{AllocError, Global};
 
 const THREE: &str = "client 1\nceil 758\nput 515 31051\nget 10\n";
 
@@ -35,24 +34,19 @@ const ROWS: &[Row] = &[
     (&[], 2, USAGE),
 ];
 
-fn strings_of(alloc: Global, words: &[&str]) -> Result<Vec<String>, AllocError> {
-    let mut strings = Vec::new(alloc);
-    for word in words {
-        strings.push(String::from_str(alloc, word)?)?;
-    }
-    Ok(strings)
+// The status of a script that is written to a sink with this room, and what it holds then.
+fn made(alloc: Global, words: &[&str], room: usize) -> Result<(u8, Vec<u8>), AllocError> {
+    let words = strings_of(alloc, words)?;
+    let mut sink = sink_of(alloc, room, 7)?;
+    let outcome = serve_make(&words, &mut sink);
+    Ok((outcome.status, sink.held))
 }
 
-// The status, and the first bytes that are held.
+// Whether it ends so, with this text.
 fn ends_so(alloc: Global, words: &[&str], room: usize, status: u8, text: &[u8]) -> bool {
-    match (
-        strings_of(alloc, words),
-        MemorySink::with_room(alloc, room, 7),
-    ) {
-        (Ok(words), Ok(mut sink)) => {
-            serve_make(&words, &mut sink) == status && sink.held.as_slice() == text
-        }
-        _ => false,
+    match made(alloc, words, room) {
+        Ok((ended, held)) => ended == status && held.as_slice() == text,
+        Err(_) => false,
     }
 }
 
@@ -67,35 +61,21 @@ fn first_other_row(alloc: Global) -> Option<usize> {
 
 // Whether a script of so many bytes is written.
 fn writes_all(alloc: Global, words: &[&str], bytes: usize) -> bool {
-    match (
-        strings_of(alloc, words),
-        MemorySink::with_room(alloc, 1_000_000, 1_000_000),
-    ) {
-        (Ok(words), Ok(mut sink)) => {
-            serve_make(&words, &mut sink) == WRITTEN && sink.held.len() == bytes
-        }
-        _ => false,
+    match made(alloc, words, 1_000_000) {
+        Ok((status, held)) => status == WRITTEN && held.len() == bytes,
+        Err(_) => false,
     }
 }
 
-fn hold(rt: &impl Abort, wrong: Option<usize>) {
-    assert_eq!(rt; wrong, None);
-}
-
 #[test]
-fn each_command_line_has_its_status_and_output(rt: HostRuntime) {
-    hold(&rt, first_other_row(rt.alloc()));
-}
-
-#[test]
-fn the_most_commands_are_written(rt: HostRuntime) {
-    let words = &["pathmap_make", "7", "32", "1875"];
-    assert!(&rt; writes_all(rt.alloc(), words, 646_109));
-}
-
-#[test]
-fn a_sink_that_is_full_holds_a_front(rt: HostRuntime) {
-    let words = &["pathmap_make", "0", "1", "3"];
-    assert!(&rt; ends_so(rt.alloc(), words, 12, STOPPED, b"client 1\ncei"));
-    assert!(&rt; ends_so(rt.alloc(), &["pathmap_make"], 3, 2, b"fau"));
+fn each_command_line_has_its_script(rt: HostRuntime) {
+    let alloc = rt.alloc();
+    all_hold(&rt, &[first_other_row(alloc)]);
+    // A sink that is full holds a front.
+    let words: &[&str] = &["pathmap_make", "0", "1", "3"];
+    assert!(&rt; ends_so(alloc, words, 12, STOPPED, b"client 1\ncei"));
+    assert!(&rt; ends_so(alloc, &["pathmap_make"], 3, 2, b"fau"));
+    // The most commands are written.
+    let words: &[&str] = &["pathmap_make", "7", "32", "1875"];
+    assert!(&rt; writes_all(alloc, words, 646_109));
 }

@@ -6,7 +6,7 @@ use Rattle.pc_edge.specs.Sending.{AppendsFront}
 use Rattle.pc_text.specs.declared.limits.TheConstants.{MOST_CLIENTS, MOST_COMMANDS}
 use Rattle.pc_text.specs.Made.{made_script}
 use Rattle.pc_text.specs.ScriptWords.{number_of}
-use Rattle.pathmap_make.specs.declared.serve.Asked.{Asked}
+use Rattle.pc_serve.specs.declared.making.Asked.{Asked}
 
 -- 1 to 32 clients with at least one command each, and at most 60,000 commands together
 abbrev pub are_few : ℕ → ℕ → Bool

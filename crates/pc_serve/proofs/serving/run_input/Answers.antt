@@ -4,8 +4,8 @@ use Rattle.std.proofs.lemmas.Result.{IfErr-weaker}
 use Rattle.pc_text.specs.declared.limits.TheConstants.{MOST_BYTES}
 use Rattle.pc_run.specs.Reading.{IsInput, input_for}
 use Rattle.pc_run.specs.Words.{options_of}
-use Rattle.pathmap.proofs.Inputs.{cause_of_bytes}
-use Rattle.pathmap.proofs.serve.run_input.Goals as goal
+use Rattle.pc_serve.proofs.Inputs.{cause_of_bytes}
+use Rattle.pc_serve.proofs.serving.run_input.Goals as goal
 
 pub returns-clause-cause : goal.returns-clause-cause
 returns-clause-cause g c =

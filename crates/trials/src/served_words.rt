@@ -1,6 +1,7 @@
 //! What `serve` answers for the words of its command line.
-use super::tests::{Ending, all_hold, ends_so, source_of};
-use super::*;
+use crate::serving::{Ending, Given, ends_so};
+use crate::tables::all_hold;
+use std::alloc::Global;
 use std::sync::Wait;
 use std::thread::Threads;
 
@@ -161,35 +162,33 @@ const SHAPES: &[Shaped] = &[
     ),
 ];
 
-fn command_ends_so<R: Threads + Wait + Sync>(
+fn ends_with<R: Threads + Wait + Sync>(
     rt: &R,
     alloc: Global,
     words: &[&str],
     input: &str,
-    ending: Ending,
+    ended: (u8, u64, &str),
 ) -> bool {
-    match Vec::from_slice(alloc, input.as_bytes()) {
-        Ok(bytes) => {
-            let source = source_of(bytes, 1000, Vec::new(alloc));
-            ends_so(rt, alloc, words, source, (1000, 1000), ending)
-        }
-        Err(_) => false,
-    }
-}
-
-fn ending_of(status: u8, reads: u64, output: &str) -> Ending {
-    Ending {
-        status,
-        reads,
-        text: output.as_bytes(),
+    let given = Given {
+        words,
+        input: input.as_bytes(),
+        fails: 0,
+        room: 1000,
+        piece: 1000,
+    };
+    let ending = Ending {
+        status: ended.0,
+        reads: ended.1,
+        text: ended.2.as_bytes(),
         is_whole: true,
-    }
+    };
+    ends_so(rt, alloc, given, ending)
 }
 
 fn first_other_command<R: Threads + Wait + Sync>(rt: &R, alloc: Global) -> Option<usize> {
     for (i, (words, status, reads, output)) in COMMANDS.iter().enumerate() {
-        let ending = ending_of(*status, *reads, output);
-        if !command_ends_so(rt, alloc, words, "put 2 20\nput 1 10\n", ending) {
+        let ended = (*status, *reads, *output);
+        if !ends_with(rt, alloc, words, "put 2 20\nput 1 10\n", ended) {
             return Some(i);
         }
     }
@@ -198,8 +197,7 @@ fn first_other_command<R: Threads + Wait + Sync>(rt: &R, alloc: Global) -> Optio
 
 fn first_other_shape<R: Threads + Wait + Sync>(rt: &R, alloc: Global) -> Option<usize> {
     for (i, (words, input, reads, output)) in SHAPES.iter().enumerate() {
-        let ending = ending_of(0, *reads, output);
-        if !command_ends_so(rt, alloc, words, input, ending) {
+        if !ends_with(rt, alloc, words, input, (0, *reads, *output)) {
             return Some(i);
         }
     }
@@ -208,10 +206,7 @@ fn first_other_shape<R: Threads + Wait + Sync>(rt: &R, alloc: Global) -> Option<
 
 #[test]
 fn each_command_line_has_its_status_and_output(rt: HostRuntime) {
-    all_hold(&rt, first_other_command(&rt, rt.alloc()));
-}
-
-#[test]
-fn each_tree_has_its_shape(rt: HostRuntime) {
-    all_hold(&rt, first_other_shape(&rt, rt.alloc()));
+    let commands = first_other_command(&rt, rt.alloc());
+    let shapes = first_other_shape(&rt, rt.alloc());
+    all_hold(&rt, &[commands, shapes]);
 }

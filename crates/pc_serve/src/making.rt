@@ -5,18 +5,14 @@ ghost use Rattle.pc_edge.specs.Faults.{HasRisen};
 ghost use Rattle.pc_text.specs.Fault.{status_of};
 ghost use Rattle.pc_text.specs.FaultLine.{WritesFault};
 ghost use Rattle.pc_text.specs.ScriptWords.{number_of};
-ghost use Rattle.pathmap_make.specs.Making.{asked_by, asked_with, WritesScript, WritesFront};
+ghost use Rattle.pc_serve.specs.Making.{asked_by, asked_with, WritesScript, WritesFront};
 
+use crate::ending::{Outcome, STOPPED, refuse};
 use pc_edge::{Failed, Sink};
-use pc_text::{
-    Fault, GREATEST_NUMBER, MOST_CLIENTS, MOST_COMMANDS, print_fault, read_number, write_made,
-};
+use pc_text::{Fault, GREATEST_NUMBER, MOST_CLIENTS, MOST_COMMANDS, read_number, write_made};
 
 /// The status of a script that was written whole.
 pub const WRITTEN: u8 = 0;
-
-/// The status of a script while whose writing the sink failed.
-pub const STOPPED: u8 = 5;
 
 /// What the words of a command line ask for.
 #[derive(Clone, Copy, Debug, PartialEq, Eq)]
@@ -34,36 +30,26 @@ pub struct Asked {
 ///
 /// Status 0: the script was written whole. 2: there are other words, and the fault's line was written. 5: the sink
 /// failed while the script was written.
-pub fn serve_make<K: Sink>(words: &[String], sink: &mut K) -> u8
-    ensures ok { result ≡ WRITTEN → WritesScript (asked_by words.now) (K.held sink.old) (K.held sink.new) }
+pub fn serve_make<K: Sink>(words: &[String], sink: &mut K) -> Outcome
+    ensures ok { result.status ≡ WRITTEN → WritesScript (asked_by words.now) (K.held sink.old) (K.held sink.new) }
 
     // The sink failed while the script was written.
-    ensures stopped { result ≡ STOPPED → WritesFront (asked_by words.now) (K.held sink.old) (K.held sink.new) }
-    ensures stopped_cause { result ≡ STOPPED → HasRisen (K.faults sink.old) (K.faults sink.new) }
+    ensures stopped { result.status ≡ STOPPED → WritesFront (asked_by words.now) (K.held sink.old) (K.held sink.new) }
+    ensures stopped_cause { result.status ≡ STOPPED → HasRisen (K.faults sink.old) (K.faults sink.new) }
 
     // Exactly the words that ask for no script are refused.
-    ensures usage { IsNone (asked_by words.now) → result ≡ status_of Fault.Usage }
+    ensures usage { IsNone (asked_by words.now) → result.status ≡ status_of Fault.Usage }
     ensures usage_line { IsNone (asked_by words.now) → WritesFault K.held K.faults sink.old sink.new Fault.Usage }
-    ensures taken { IsSome (asked_by words.now) → (result ≡ WRITTEN) ⊎ (result ≡ STOPPED) }
+    ensures taken { IsSome (asked_by words.now) → (result.status ≡ WRITTEN) ⊎ (result.status ≡ STOPPED) }
     ensures never_falls { K.faults sink.old ≤ K.faults sink.new }
 {
     let Some(asked) = asked_by(words) else {
-        return refuse(sink);
+        return refuse(sink, &Fault::Usage);
     };
     match write_made(sink, asked.seed, asked.clients, asked.commands) {
-        Ok(()) => WRITTEN,
-        Err(Failed) => STOPPED,
+        Ok(()) => Outcome { status: WRITTEN },
+        Err(Failed) => Outcome { status: STOPPED },
     }
-}
-
-/// Writes the line of words that are not taken, and ends with their status whether or not it was written.
-pub fn refuse<K: Sink>(sink: &mut K) -> u8
-    ensures status { result ≡ status_of Fault.Usage }
-    ensures line { WritesFault K.held K.faults sink.old sink.new Fault.Usage }
-    ensures never_falls { K.faults sink.old ≤ K.faults sink.new }
-{
-    let _ = print_fault(sink, &Fault::Usage);
-    Fault::Usage.status()
 }
 
 // What the words ask for, the program's name first.

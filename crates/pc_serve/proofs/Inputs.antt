@@ -15,7 +15,7 @@ use Rattle.pc_run.specs.declared.reading.TheConstants.{MADE_CLIENTS, MADE_COMMAN
 use Rattle.pc_run.specs.declared.words.Options.{Options}
 use Rattle.pc_run.specs.Reading.{IsInput, IsInputFault, input_for}
 use Rattle.pc_run.specs.Words.{ReadsSource}
-use Rattle.pathmap.specs.Serving.{IsBytesFault, IsCauseOf}
+use Rattle.pc_serve.specs.Serving.{IsBytesFault, IsCauseOf}
 
 -- what holds of the bytes that were read holds of the input, where the source tells it
 pub of_input : (left : Option (List ℕ)) (bytes : List ℕ) (Holds : List ℕ → Type 0) → IsInput left bytes → Holds bytes

@@ -4,33 +4,24 @@ ghost use Rattle.std.specs.Prelude.{IfSome, IsNone};
 ghost use Rattle.pc_run.specs.Words.{options_of, ReadsSource, LeavesSource};
 ghost use Rattle.pc_run.specs.Reading.{TakesAtMost};
 ghost use Rattle.pc_run.specs.Runs.{lines_of};
-ghost use Rattle.pathmap.specs.Serving.{PrintsRun, PrintsFront, HasRunAll, RunsBytes, bad_script};
-ghost use Rattle.pathmap.specs.Serving.{EndsInFault, IsCauseOf, IsBytesFault};
-ghost use Rattle.pathmap.specs.Serving.{IsTooLong, IsRefused, EndsUnlessMemory, EndsUnlessStopped};
+ghost use Rattle.pc_serve.specs.Serving.{PrintsRun, PrintsFront, HasRunAll, RunsBytes, bad_script};
+ghost use Rattle.pc_serve.specs.Serving.{EndsInFault, IsCauseOf, IsBytesFault};
+ghost use Rattle.pc_serve.specs.Serving.{IsTooLong, IsRefused, EndsUnlessMemory, EndsUnlessStopped};
 ghost use Rattle.pc_edge.specs.Faults.{HasRisen};
 ghost use Rattle.pc_text.specs.Fault.{status_of};
 ghost use Rattle.pc_text.specs.FaultLine.{WritesFault};
 ghost use Rattle.pc_text.specs.Printed.{listed};
 
+use crate::ending::{Outcome, STOPPED, refuse};
 use pc_edge::{Failed, Gate, Sink, Source};
 use pc_run::{Options, Run, options_of, read_input, run_script};
-use pc_text::{Extras, Fault, MOST_BYTES, print_fault, print_run, read_script};
+use pc_text::{Extras, Fault, MOST_BYTES, print_run, read_script};
 use std::alloc::Global;
 use std::sync::Wait;
 use std::thread::Threads;
 
 /// The status of a run that was printed whole.
 pub const PRINTED: u8 = 0;
-
-/// The status of a run while whose printing the sink failed.
-pub const STOPPED: u8 = 5;
-
-/// How a run ended.
-#[derive(Clone, Copy, Debug, PartialEq, Eq)]
-pub struct Outcome {
-    /// 0 where the run was printed, else the status of the fault that ended it.
-    pub status: u8,
-}
 
 /// Reads a script from the source, runs it with a worker for each client, and prints the history of all clients, the
 /// pairs that are left and, under `--shape`, the shape of the tree. Under `--made` the script is the one that the seed
@@ -145,16 +136,4 @@ fn run_bytes<R: Threads + Wait + Sync, G: Gate + Sync>(
     let script = read_script(alloc, bytes)?;
     let run = run_script(rt, alloc, options, &script, gate)?;
     Ok(run)
-}
-
-/// Writes a fault's line, and ends with its status whether or not it was written.
-pub fn refuse<K: Sink>(sink: &mut K, fault: &Fault) -> Outcome
-    ensures status { result.status ≡ status_of fault.now }
-    ensures line { WritesFault K.held K.faults sink.old sink.new fault.now }
-    ensures never_falls { K.faults sink.old ≤ K.faults sink.new }
-{
-    let _ = print_fault(sink, fault);
-    Outcome {
-        status: fault.status(),
-    }
 }
