@@ -101,6 +101,10 @@ HasNoNumber v w n = (n.counter ≡ Installs) × (n.at ≡ v.install.number) × (
 abbrev pub KeepsNotes : View → View → Type 0
 KeepsNotes v w = (x : Note) → Has v.notes x → Has w.notes x
 
+-- its attempt is as it was
+abbrev pub KeepsAttempt : View → View → Type 0
+KeepsAttempt v w = (w.attempt ≡ v.attempt) × (w.posted ≡ v.posted)
+
 -- the view with these words in the own install descriptor, and a fresh number
 abbrev pub described : View → ℕ → ℕ → ℕ → ℕ → View
 described v number op place old = record v { install = record { number = number; op = op; place = place; old = old }; fresh = true }

@@ -8,7 +8,7 @@ ghost use Rattle.pc_rule_law.specs.Views.{held};
 ghost use Rattle.pc_rule_law.specs.Conditions.{IsFree};
 ghost use Rattle.pc_rule.specs.declared.refs.RefKind.TheVariants.{Exchange};
 ghost use Rattle.pc_rule.specs.Passes.{view, board_size, IsPassOf, IsSamePass};
-ghost use Rattle.pc_dcss.specs.Installs.{IsDecidedSince, KnowsPlace, KeepsNotes, IsReady, IsPlaced, IsMet, IsDifferent, HasNoNumber, IsOutOfNumbers, described, word_of, last_install, OnHeld, OnDecided, IfDiffers, IfMet, IfNumbers};
+ghost use Rattle.pc_dcss.specs.Installs.{IsDecidedSince, KnowsPlace, KeepsNotes, KeepsAttempt, IsReady, IsPlaced, IsMet, IsDifferent, HasNoNumber, IsOutOfNumbers, described, word_of, last_install, OnHeld, OnDecided, IfDiffers, IfMet, IfNumbers};
 
 use crate::descriptor::{Words, number_of};
 use crate::installed::Installed;
@@ -94,6 +94,7 @@ fn put_install<H: Shape>(
     ensures pass { IsSamePass pass.old pass.new }
     ensures keeps { KeepsNotes (view pass.old) (view pass.new) }
     ensures adds { AddsNotes (view pass.old) (view pass.new) }
+    ensures attempt { KeepsAttempt (view pass.old) (view pass.new) }
     ensures number { (view pass.new).install.number ≡ (view pass.old).install.number }
     ensures placed { IfOk result (λ r. IsPlaced (board_size board.now) (view pass.new) r op place) }
     ensures free { OnErr result (IsFree (view pass.new)) }
@@ -129,6 +130,7 @@ pub fn place_install<H: Shape>(
     ensures pass { IsSamePass pass.old pass.new }
     ensures keeps { KeepsNotes (view pass.old) (view pass.new) }
     ensures adds { AddsNotes (view pass.old) (view pass.new) }
+    ensures attempt { KeepsAttempt (view pass.old) (view pass.new) }
     ensures number { (view pass.old).install.number < last_install → (view pass.new).install.number ≡ (view pass.old).install.number + 1 }
     ensures placed { IfOk result (λ r. IsPlaced (board_size board.now) (view pass.new) r op place) }
     ensures free { OnErr result (IsFree (view pass.new)) }
@@ -166,6 +168,7 @@ pub fn install<H: Shape>(board: &Board<H>, pass: &mut Pass<H>, op: Ref, place: P
     ensures pass { IsSamePass pass.old pass.new }
     ensures keeps { KeepsNotes (view pass.old) (view pass.new) }
     ensures adds { AddsNotes (view pass.old) (view pass.new) }
+    ensures attempt { KeepsAttempt (view pass.old) (view pass.new) }
     ensures number { (view pass.old).install.number < last_install → (view pass.new).install.number ≡ (view pass.old).install.number + 1 }
     ensures free { IsFree (view pass.new) }
     ensures held { OnHeld result (IsNotedSince (view pass.old) (view pass.new) (held op.seat op.number place.node place.field)) }

@@ -6,12 +6,13 @@ use Rattle.atomic_table.proofs.Lists.{at_index}
 use Rattle.pc_model.specs.declared.shape.Shape.{Ghosts}
 use Rattle.pc_rule_law.specs.Conditions.{IsFree}
 use Rattle.pc_rule_law.specs.Past.{Has}
-use Rattle.pc_rule_law.specs.Views.{Note}
+use Rattle.pc_rule_law.specs.Plays.{IsWell}
+use Rattle.pc_rule_law.specs.Views.{Note, View}
 use Rattle.pc_rule_law.proofs.Lists.{below_length, element_at, each_moved}
 use Rattle.pc_rule.specs.declared.board.Board.{Board}
 use Rattle.pc_rule.specs.declared.board.Pass.{Pass}
 use Rattle.pc_rule.specs.Calls.{AreSame, AreFree, AllHave}
-use Rattle.pc_rule.specs.Passes.{view, board_size, share_of, recorded, IsPassOf, IsSamePass}
+use Rattle.pc_rule.specs.Passes.{view, board_size, share_of, recorded, IsPassOf, IsSeatedAs, IsSamePass, OnlyListed}
 use Rattle.pc_rule.specs.Recorded.{calls_of, HasRoomFor}
 use Rattle.pc_rule.specs.Shares.{AreAll, AllNoted}
 
@@ -22,8 +23,21 @@ read_at (x ∷ xs) zero v d at = some-injective x v at
 read_at (x ∷ xs) (suc i) v d at = read_at xs i v d at
 
 module _ {H : Type 0} {S : Ghosts H} where
+  -- a pass whose list alone changed is where it was
+  pub only_listed : (b : Board H) (p q : Pass H S) → IsPassOf b p → OnlyListed p q → IsSeatedAs p q
+  only_listed b p q of only = let e : view q ≡ view p = ap (λ s. s.me.0) only.0 in (
+    ap (λ s. s.table_id) only.0,
+    ap (λ (v : View). v.size) e,
+    ap (λ (v : View). v.seat) e,
+    ap (λ (v : View). v.last) e,
+    ap (λ (v : View). v.rest) e,
+    subst IsWell (sym e) of.3,
+    only.1,
+    only.2,
+  )
+
   -- a pass of the board is one after a call
-  pub pass_stays : (b : Board H) (p q : Pass H S) → IsPassOf b p → IsSamePass p q → IsPassOf b q
+  pub pass_stays : (b : Board H) (p q : Pass H S) → IsPassOf b p → IsSeatedAs p q → IsPassOf b q
   pass_stays b p q of same = (
     same.0 ∙ of.0,
     same.1 ∙ of.1,
@@ -37,7 +51,7 @@ module _ {H : Type 0} {S : Ghosts H} where
   abbrev AtEnd : Board H → ℕ → Pass H S → Type 0
   AtEnd b i p = i + 1 ≡ (board_size b).seats → ((view p).last ≡ true) × ((view p).rest ≡ i) × HasRoomFor b.shares.items p
 
-  end_stays : (b : Board H) (i : ℕ) (p q : Pass H S) → AtEnd b i p → IsSamePass p q → AtEnd b i q
+  end_stays : (b : Board H) (i : ℕ) (p q : Pass H S) → AtEnd b i p → IsSeatedAs p q → AtEnd b i q
   end_stays b i p q at same e = let l = at e in (same.3 ∙ l.0, same.4 ∙ l.1, subst (λ v. calls_of b.shares.items ≤ vec_capacity v) (sym same.7) l.2)
 
   -- the same passes are all those of the board again, once no install stands
@@ -47,10 +61,10 @@ module _ {H : Type 0} {S : Ghosts H} where
     count = n ∙ all.count;
     shared = all.shared;
     order = λ i q at. let lt = below_length new i q at in let p = element_at old i (omega arith) in
-        let before = all.order i p.0 p.1 in let s = same.each i p.0 q p.1 at in
+        let before = all.order i p.0 p.1 in let s = (same.each i p.0 q p.1 at).0 in
         (pass_stays b p.0 q before.0 s, s.2 ∙ before.1, free i q at);
     last = λ i q at e. let lt = below_length new i q at in let p = element_at old i (omega arith) in
-        end_stays b i p.0 q (all.last i p.0 p.1) (same.each i p.0 q p.1 at) e;
+        end_stays b i p.0 q (all.last i p.0 p.1) (same.each i p.0 q p.1 at).0 e;
   }
 
   -- the pass that an index gives
@@ -71,7 +85,7 @@ module _ {H : Type 0} {S : Ghosts H} where
 
   -- one pass has made calls, and the others none
   module _ (passes : List (Pass H S)) (i : ℕ) (p q : Pass H S) (at : get_elem? passes i ≡ some p) where
-    pub all_but_one : (b : Board H) → AreAll b passes → IsSamePass p q → IsFree (view q) → AreAll b (set passes i q)
+    pub all_but_one : (b : Board H) → AreAll b passes → IsSeatedAs p q → IsFree (view q) → AreAll b (set passes i q)
     all_but_one b all same free = let before = all.order i p at in let InOrder : ℕ → Pass H S → Type 0 = λ j r. IsPassOf b r × ((view r).seat ≡ j) × IsFree (view r) in record {
       some = all.some;
       count = length-set passes i q ∙ all.count;

@@ -4,6 +4,7 @@ pub mod Ends
 pub mod Filling
 pub mod Giving
 pub mod Left
+pub mod Listing
 pub mod Numbers
 pub mod Opened
 pub mod Posting

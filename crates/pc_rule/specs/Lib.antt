@@ -2,6 +2,7 @@ pub mod Calls
 pub mod Closed
 pub mod Conditions
 pub mod Left
+pub mod Listed
 pub mod Opened
 pub mod Passes
 pub mod Recorded

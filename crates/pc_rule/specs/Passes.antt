@@ -11,6 +11,7 @@ use Rattle.pc_rule_law.specs.Plays.{IsWell}
 use Rattle.pc_rule_law.specs.Tables.{size_of}
 use Rattle.pc_rule.specs.declared.board.Board.{Board}
 use Rattle.pc_rule.specs.declared.board.Pass.{Pass}
+use Rattle.pc_rule.specs.declared.opening.Place.{Place}
 use Rattle.pc_rule.specs.declared.share.Share.{Share}
 
 module _ {H : Type 0} where
@@ -37,6 +38,10 @@ module _ {H : Type 0} {S : Ghosts H} where
   abbrev pub recorded : Pass H S → List Entry
   recorded p = p.entries.items
 
+  -- the words that its exchange is to change: the next one's, and those of the one that is published
+  abbrev pub listed : Pass H S → List Place
+  listed p = p.listed.items
+
   -- the pass sits at the board
   abbrev pub SitsAt : Board H → Pass H S → Type 0
   SitsAt b p = (p.seat.table_id ≡ b.table.shared.table_id) × ((view p).size ≡ board_size b) × ((view p).seat < (board_size b).seats) × IsWell (view p)
@@ -47,10 +52,18 @@ module _ {H : Type 0} {S : Ghosts H} where
       × (get_elem? b.shares.items (view p).seat ≡ some (share_of p)) × (length (recorded p) ≤ (share_of p).calls)
 
   -- the pass is where it was, on the same board, with the same share and the same calls recorded
-  abbrev pub IsSamePass : Pass H S → Pass H S → Type 0
-  IsSamePass old new = (new.seat.table_id ≡ old.seat.table_id) × ((view new).size ≡ (view old).size) × ((view new).seat ≡ (view old).seat)
+  abbrev pub IsSeatedAs : Pass H S → Pass H S → Type 0
+  IsSeatedAs old new = (new.seat.table_id ≡ old.seat.table_id) × ((view new).size ≡ (view old).size) × ((view new).seat ≡ (view old).seat)
       × ((view new).last ≡ (view old).last) × ((view new).rest ≡ (view old).rest) × IsWell (view new)
       × (share_of new ≡ share_of old) × (new.entries ≡ old.entries)
+
+  -- and it lists the same words
+  abbrev pub IsSamePass : Pass H S → Pass H S → Type 0
+  IsSamePass old new = IsSeatedAs old new × (new.listed ≡ old.listed)
+
+  -- nothing but its list changed
+  abbrev pub OnlyListed : Pass H S → Pass H S → Type 0
+  OnlyListed old new = (new.seat ≡ old.seat) × (share_of new ≡ share_of old) × (new.entries ≡ old.entries)
 
 -- the number of the own install after a store to this word of its descriptor
 abbrev pub number_after : ℕ → ℕ → ℕ → ℕ

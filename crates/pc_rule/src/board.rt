@@ -2,7 +2,9 @@
 ghost use Rattle.std.specs.Prelude.{◌≡◌, ◌<◌, ◌≤◌, [], true, length, vec_capacity};
 ghost use Rattle.pc_rule_law.specs.Board.{words_of};
 ghost use Rattle.pc_rule_law.specs.Tables.{size_of};
+ghost use Rattle.pc_rule.specs.Listed.{AreListed};
 
+use crate::opening::Place;
 use crate::share::Share;
 use atomic_table::{Seat, Table};
 use pc_model::{Entry, Shape};
@@ -25,8 +27,8 @@ pub struct Board<H: Shape> {
     ghost small: { (seats ≤ 32) × (slots ≤ 61000) },
 }
 
-/// A seat at a board, with what its pass knows, and the calls that it recorded. The pass with the highest seat has room
-/// for the calls of all passes, which it takes in at the closing.
+/// A seat at a board, with what its pass knows, the calls that it recorded, and the words that it lists for its exchange. The
+/// pass with the highest seat has room for the calls of all passes, which it takes in at the closing.
 #[derive(Drop)]
 pub struct Pass<H: Shape> {
     pub(crate) seat: Seat<bool, PassView>,
@@ -36,6 +38,7 @@ pub struct Pass<H: Shape> {
     pub(crate) published: bool,
     pub(crate) share: Share,
     pub(crate) entries: Vec<Entry>,
+    pub(crate) listed: Vec<Place>,
     pub(crate) shape: PhantomData<H>,
     ghost live: { seat.me.0.live ≡ true },
     ghost numbered: { seat.me.0.seat ≡ index },
@@ -45,4 +48,6 @@ pub struct Pass<H: Shape> {
     ghost holds_none: { seat.me.1 ≡ [] },
     ghost few: { index < 32 },
     ghost roomy: { share.calls ≤ vec_capacity entries },
+    ghost ample: { 24 ≤ vec_capacity listed },
+    ghost listing: { AreListed seat.me.0.size.slots listed.items },
 }

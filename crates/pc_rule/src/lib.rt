@@ -10,6 +10,7 @@ mod closed;
 mod closing;
 mod exchanges;
 mod life;
+mod listed;
 mod numbered;
 mod opening;
 mod own;

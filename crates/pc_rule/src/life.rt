@@ -17,7 +17,8 @@ ghost use Rattle.pc_rule.specs.Opened.{AreOpened, AreInOrder};
 ghost use Rattle.pc_rule.specs.Starting.{all_posted};
 
 use crate::board::{Board, Pass};
-use crate::opening::{Posted, words_start};
+use crate::listed::list_room;
+use crate::opening::{Place, Posted, words_start};
 use crate::recorded::room_for;
 use crate::share::Share;
 use atomic_table::{Closed, Table};
@@ -42,6 +43,7 @@ impl<H: Shape> Board<H> {
         ensures room { IfOk result (λ r. (recorded r.1 ≡ []) × (1 ≡ length shares.now → HasRoomFor shares.now r.1)) }
     {
         let entries = room_for(alloc, shares, 0)?;
+        let listed = list_room(alloc)?;
         let mut kept = Vec::new(alloc);
         kept.extend_from_slice(shares)?;
         let words = words_start(alloc, opening, posted)?;
@@ -65,23 +67,26 @@ impl<H: Shape> Board<H> {
             published: false,
             share: shares[0],
             entries,
+            listed,
             shape: PhantomData,
         };
         Ok((board, pass))
     }
 
-    /// The last pass makes another, with this share and this room for its calls.
+    /// The last pass makes another, with this share and this room for its calls and for its words.
     fn another(
         &self,
         last: &mut Pass<H>,
         index: usize,
         share: Share,
         entries: Vec<Entry>,
+        listed: Vec<Place>,
     ) -> Pass<H>
         requires pass { IsPassOf self.now last.old × ((view last.old).last ≡ true) }
         requires index { ((view last.old).seat + 1 ≡ index) × (index < (board_size self.now).seats) }
         requires share { get_elem? self.now.shares.items index ≡ some share }
         requires room { (entries.items ≡ []) × (share.calls ≤ vec_capacity entries) }
+        requires list { (listed.items ≡ []) × (24 ≤ vec_capacity listed) }
         ensures pass { IsPassOf self.now last.new × (view last.new ≡ maker (view last.old)) }
         ensures kept { recorded last.new ≡ recorded last.old }
         ensures made { IsPassOf self.now result × (view result ≡ made_by (view last.old)) }
@@ -96,6 +101,7 @@ impl<H: Shape> Board<H> {
             published: false,
             share,
             entries,
+            listed,
             shape: PhantomData,
         }
     }
@@ -118,7 +124,8 @@ impl<H: Shape> Board<H> {
         let mut made = 0;
         while made + 1 < opening.seats {
             let entries = room_for(alloc, shares, made + 1)?;
-            let next = board.another(&mut last, made + 1, shares[made + 1], entries);
+            let listed = list_room(alloc)?;
+            let next = board.another(&mut last, made + 1, shares[made + 1], entries, listed);
             passes.push_reserved(last);
             last = next;
             made += 1;

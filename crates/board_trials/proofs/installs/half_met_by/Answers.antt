@@ -29,5 +29,5 @@ pub returns : goal.returns
 returns c = let s = c.split_at_mut-front in let l = c.args.passes.now in let b = c.args.board.now in let p = c.half_met.new.first in let q = c.half_met.new.second in let e = c.half_met.ensures in
     subst (λ new. AreAll b new) (both_set l s.result.0.now s.result.1.now s.ensures.value s.ensures.front_len c.requires.two p q)
     (all_but_one (set l 0 p) 1 _ q (second_after l s.result.0.now s.result.1.now s.ensures.value s.ensures.front_len c.requires.two p c.index-back-0.result) b
-    (all_but_one l 0 _ p (first_at l s.result.0.now s.result.1.now s.ensures.value s.ensures.front_len c.requires.two c.index-front-0.result) b c.requires.all e.same.0 e.free.0)
-    e.same.1 e.free.1)
+    (all_but_one l 0 _ p (first_at l s.result.0.now s.result.1.now s.ensures.value s.ensures.front_len c.requires.two c.index-front-0.result) b c.requires.all e.same.0.0 e.free.0)
+    e.same.1.0 e.free.1)

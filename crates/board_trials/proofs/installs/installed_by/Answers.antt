@@ -18,7 +18,7 @@ installed-requires-clause-known c = let p = c.index_mut.result.now in let ok = c
 pub returns-clause-all : goal.returns-clause-all
 returns-clause-all c = let p = c.index_mut.result.now in let ok = c.args.passes.now.ok.0 in let lt = c.requires.seat in
     all_but_one c.args.passes.now.items c.args.seat p c.installed.new.pass (pass_at c.args.passes.now.items c.args.seat p (omega arith) c.index_mut.ensures.value)
-    c.args.board.now c.requires.all c.installed.ensures.same c.installed.ensures.free
+    c.args.board.now c.requires.all c.installed.ensures.same.0 c.installed.ensures.free
 
 pub returns-clause-keeps : goal.returns-clause-keeps
 returns-clause-keeps c x = let p = c.index_mut.result.now in let ok = c.args.passes.now.ok.0 in let lt = c.requires.seat in

@@ -1,11 +1,12 @@
 -- The step's lemma, at the address of the word.
-use Rattle.std.proofs.Common.{◌≡◌, ◌+◌, true, refl, sym, ap, ◌∙◌, subst}
+use Rattle.std.proofs.Common.{◌≡◌, ◌+◌, refl, sym, ap, ◌∙◌}
 use Rattle.pc_rule_law.specs.Board.{Size, Place, at_own, own_status, Inside}
 use Rattle.pc_rule_law.specs.Views.{View}
 use Rattle.pc_rule_law.specs.Plays.{after_publish, Published}
 use Rattle.pc_rule_law.specs.Tables.{size_of, sound_cells}
 use Rattle.pc_rule_law.proofs.Places.{within}
-use Rattle.pc_rule_law.proofs.Publishing.{next_status, publish_attempt}
+use Rattle.pc_rule_law.proofs.Publishing.{publish_attempt}
+use Rattle.pc_rule.proofs.Listing.{still_listed}
 use Rattle.pc_rule.proofs.Telling.{told_at}
 use Rattle.pc_rule.proofs.exchanges.step_11.Goals as goal
 
@@ -32,6 +33,8 @@ invariant_of-pass g c = let t = c.store.ensures.2 in let v : View = c.args.pass.
       holds_none = t.0 ∙ c.args.pass.now.holds_none;
       few = c.args.pass.now.few;
       roomy = c.args.pass.now.roomy;
+      ample = c.args.pass.now.ample;
+      listing = still_listed v c.store.new.seat.me.0 c.args.pass.now.listed.items t.1 c.args.pass.now.listing;
     }
 
 pub returns-clause-told : goal.returns-clause-told

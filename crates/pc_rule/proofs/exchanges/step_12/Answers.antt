@@ -6,6 +6,7 @@ use Rattle.pc_rule_law.specs.Plays.{LoadedWord}
 use Rattle.pc_rule_law.specs.Tables.{size_of, sound_cells}
 use Rattle.pc_rule_law.proofs.Places.{within}
 use Rattle.pc_rule_law.proofs.DescriptorLooks.{load_word}
+use Rattle.pc_rule.proofs.Listing.{still_listed}
 use Rattle.pc_rule.proofs.Telling.{told_at}
 use Rattle.pc_rule.proofs.exchanges.step_12.Goals as goal
 
@@ -30,6 +31,8 @@ invariant_of-pass g c = let t = c.load.ensures.2 in let v : View = c.args.pass.n
       holds_none = t.0 ∙ c.args.pass.now.holds_none;
       few = c.args.pass.now.few;
       roomy = c.args.pass.now.roomy;
+      ample = c.args.pass.now.ample;
+      listing = still_listed v c.load.new.seat.me.0 c.args.pass.now.listed.items t.1 c.args.pass.now.listing;
     }
 
 pub returns-clause-told : goal.returns-clause-told

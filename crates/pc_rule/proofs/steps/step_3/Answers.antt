@@ -8,6 +8,7 @@ use Rattle.pc_rule_law.proofs.Places.{within}
 use Rattle.pc_rule_law.proofs.InstallStores.{store_install}
 use Rattle.pc_rule.specs.Passes.{number_after}
 use Rattle.pc_rule.proofs.Numbers.{number_stored}
+use Rattle.pc_rule.proofs.Listing.{still_listed}
 use Rattle.pc_rule.proofs.Telling.{told_at}
 use Rattle.pc_rule.proofs.steps.step_3.Goals as goal
 
@@ -34,6 +35,8 @@ invariant_of-pass g c = let t = c.store.ensures.2 in let v : View = c.args.pass.
       holds_none = t.0 ∙ c.args.pass.now.holds_none;
       few = c.args.pass.now.few;
       roomy = c.args.pass.now.roomy;
+      ample = c.args.pass.now.ample;
+      listing = still_listed v c.store.new.seat.me.0 c.args.pass.now.listed.items t.1 c.args.pass.now.listing;
     }
 
 pub returns-clause-told : goal.returns-clause-told

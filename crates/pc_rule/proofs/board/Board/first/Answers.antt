@@ -14,6 +14,7 @@ use Rattle.pc_rule_law.specs.Views.{Note, View, NoteInRange, AllNotes}
 use Rattle.pc_rule_law.proofs.Openings.{may_open}
 use Rattle.pc_rule_law.proofs.Seats.{opening_holds}
 use Rattle.pc_rule.specs.declared.share.Share.{Share}
+use Rattle.pc_rule.proofs.Listing.{none_listed}
 use Rattle.pc_rule.proofs.Starting.{element}
 use Rattle.pc_rule.specs.Starting.{all_posted, starting_board}
 use Rattle.pc_rule.proofs.board.Board.first.Goals as goal
@@ -50,3 +51,6 @@ returns-clause-room g c = (c.in_ok-entries.ensures.none, λ e. c.in_ok-entries.e
 
 pub invariant_of-pass-clause-roomy : goal.invariant_of-pass-clause-roomy
 invariant_of-pass-clause-roomy g c = c.in_ok-entries.ensures.own _ (element c.args.shares.now 0 (record { slots = 0; calls = 0 }) (let one = c.requires.shares.1 in omega arith))
+
+pub invariant_of-pass-clause-listing : goal.invariant_of-pass-clause-listing
+invariant_of-pass-clause-listing g c = none_listed _ _ c.in_ok-listed.ensures.none
