@@ -6,7 +6,7 @@ ghost use Rattle.pc_rule.specs.Passes.{view, listed, OnlyListed};
 
 use crate::board::Pass;
 use crate::opening::Place;
-use crate::places::cell_place;
+use crate::places::field_place;
 use pc_model::Shape;
 use std::alloc::{AllocError, Global};
 
@@ -17,6 +17,15 @@ pub(crate) fn list_room(alloc: Global) -> Result<Vec<Place>, AllocError>
 {
     let places = Vec::with_capacity(alloc, 24)?;
     Ok(places)
+}
+
+impl Place {
+    /// The number of the word that is to change, by which listed words are ordered.
+    pub fn number(&self) -> u64
+        ensures { result ≡ word_number self.now }
+    {
+        8 * u64::from(self.node) + field_place(self.field) as u64
+    }
 }
 
 impl<H: Shape> Pass<H> {
@@ -46,8 +55,7 @@ impl<H: Shape> Pass<H> {
         ensures each { IsPermutation (listed self.old) (listed self.new) }
         ensures rising { IsNonDecreasingBy word_number (listed self.new) }
     {
-        self.listed
-            .sort_unstable_by_key(|place| cell_place(place.node, place.field));
+        self.listed.sort_unstable_by_key(|place| place.number());
     }
 
     /// Drops the words that were listed.

@@ -1,0 +1,139 @@
+-- The attempt that a list is: it is formed, the words that were stored describe it, and once it is published each place of
+-- the list is known to be one of it.
+use Rattle.std.proofs.Common.{◌≡◌, ◌≢◌, ◌⊎◌, ℕ, zero, suc, ◌+◌, ◌*◌, ◌^◌, ◌<◌, ◌≤◌, true, false, List, [], ◌∷◌, length, map, get_or, refl, sym, ap, ap₂, ◌∙◌, subst, inr, ⊎_elim, arith}
+use Rattle.std.proofs.lemmas.Bool.{cases_order}
+use Rattle.std.proofs.lemmas.List.{length-map}
+use Rattle.std.specs.List.{All}
+use mathlib.Core.Option.{some, some-injective, some-ne-none}
+use lib.ListN.{get_elem?}
+use Rattle.pc_model.specs.Cells.{IsNode}
+use Rattle.pc_model.specs.Exchanges.{Changed}
+use Rattle.pc_words.specs.declared.status.Stage.TheVariants.{Undecided}
+use Rattle.pc_words.specs.Statuses.{packed}
+use Rattle.pc_rule_law.specs.Board.{place_number, descriptor_words}
+use Rattle.pc_rule_law.specs.Conditions.{CanWrite, CanPublish, KnowsWord, KnowsChange}
+use Rattle.pc_rule_law.specs.Openings.{attempt_of}
+use Rattle.pc_rule_law.specs.Past.{Attempt, Describes, IsFormed}
+use Rattle.pc_rule_law.specs.Plays.{after_publish}
+use Rattle.pc_rule_law.specs.Views.{View, clock_at, word_in, with_notes}
+use Rattle.pc_rule_law.proofs.Lists.{below_length, element_at}
+use Rattle.pc_rule.specs.declared.opening.Place.{Place}
+use Rattle.pc_rule.specs.declared.refs.Ref.{Ref}
+use Rattle.pc_rule.specs.Conditions.{MayPublish}
+use Rattle.pc_rule.specs.Listed.{word_number, FitsWord, AreListed}
+use Rattle.pc_rule.specs.Starting.{change_of}
+use Rattle.pc_rule.proofs.Calls.{read_at}
+use Rattle.pc_dcss.specs.Installs.{KnowsPlace}
+use Rattle.pc_kcas.specs.Exchanges.{ListsTo, OnlyWrote, OnlyPublished, HasPublished}
+
+-- a change of the attempt is that of a listed place
+listed_at : (places : List Place) (i : ℕ) (x : Changed) → get_elem? (map change_of places) i ≡ some x
+    → (p : Place) × (get_elem? places i ≡ some p) × (change_of p ≡ x)
+listed_at [] i x at = absurd (some-ne-none x (sym at))
+listed_at (p ∷ places) zero x at = (p, refl, some-injective (change_of p) x at)
+listed_at (p ∷ places) (suc i) x at = listed_at places i x at
+
+listed_as : (places : List Place) (i : ℕ) (p : Place) → get_elem? places i ≡ some p → get_elem? (map change_of places) i ≡ some (change_of p)
+listed_as [] i p at = absurd (some-ne-none p (sym at))
+listed_as (q ∷ places) zero p at = ap (λ (r : Place). some (change_of r)) (some-injective q p at)
+listed_as (q ∷ places) (suc i) p at = listed_as places i p at
+
+pub describes : (slots : ℕ) (places : List Place) (word : ℕ → ℕ) → ListsTo places word (length places) → Describes slots (attempt_of (map change_of places)) word
+unfolding listed_at
+describes slots places word so = record {
+  mode = so.mode;
+  changes = so.changes ∙ sym (length-map places change_of);
+  visits = so.visits;
+  each_change = λ i x at. let p = listed_at places i x at in
+      subst (λ (y : Changed). (word (3 + 3 * i) ≡ place_number y.node y.field) × (word (4 + 3 * i) ≡ y.old) × (word (5 + 3 * i) ≡ y.new)) p.2
+      (so.each i p.0 (below_length places i p.0 p.1) p.1);
+  each_visit = λ i x at. absurd (some-ne-none x (sym at));
+}
+
+module _ (slots : ℕ) (places : List Place) (all : AreListed slots places) where
+  fits_at : (i : ℕ) (p : Place) → get_elem? places i ≡ some p → FitsWord slots p
+  fits_at i p at = subst (FitsWord slots) (read_at places i p p at) (all.fit i p (below_length places i p at))
+
+  -- the earlier of two listed places isn't of the word of the later
+  apart_at : (i j : ℕ) (p q : Place) → i < j → get_elem? places i ≡ some p → get_elem? places j ≡ some q → word_number p ≢ word_number q
+  apart_at i j p q lt at_p at_q same = all.apart i j p lt (below_length places j q at_q)
+      (ap word_number (read_at places i p p at_p) ∙ (same ∙ sym (ap word_number (read_at places j q p at_q))))
+
+  one_index : (i j : ℕ) (p q : Place) → get_elem? places i ≡ some p → get_elem? places j ≡ some q → word_number p ≡ word_number q → i ≡ j
+  unfolding apart_at
+  one_index i j p q at_p at_q same = ⊎_elim (λ (e : i ≡ j). e)
+      (λ ne. ⊎_elim (λ (lt : i < j). absurd (apart_at i j p q lt at_p at_q same)) (λ (lt : j < i). absurd (apart_at j i q p lt at_q at_p (sym same))) ne) (cases_order i j)
+
+  pub formed : IsFormed slots (attempt_of (map change_of places))
+  unfolding listed_at fits_at one_index
+  formed = record {
+    few = (let n = length-map places change_of in let few = all.few in omega arith);
+    few_visits = omega arith;
+    inside = λ x has. let p = listed_at places has.0 x has.1 in
+        subst (λ (y : Changed). IsNode slots y.node × (y.old < 2 ^ 62) × (y.new < 2 ^ 62)) p.2 (fits_at has.0 p.0 p.1);
+    apart = λ i j x y at_x at_y node field. let p = listed_at places i x at_x in let q = listed_at places j y at_y in
+        one_index i j p.0 q.0 p.1 q.1 (ap₂ place_number (ap (λ (c : Changed). c.node) p.2 ∙ (node ∙ sym (ap (λ (c : Changed). c.node) q.2)))
+        (ap (λ (c : Changed). c.field) p.2 ∙ (field ∙ sym (ap (λ (c : Changed). c.field) q.2))));
+  }
+
+-- the pass that loaded the clock, stored words and published is as it was but for its attempt and its notes
+pub only_published : (v u t w : View) (r : ℕ) (words : List (ℕ × ℕ)) → u ≡ with_notes v (clock_at r ∷ [])
+    → t ≡ record u { attempt = record u.attempt { words = words } } → w ≡ after_publish t → OnlyPublished v w
+only_published v u t w r words looked wrote told =
+    let e : w ≡ after_publish (record (with_notes v (clock_at r ∷ [])) { attempt = record v.attempt { words = words } }) =
+    told ∙ (ap after_publish wrote ∙ ap (λ (x : View). after_publish (record x { attempt = record x.attempt { words = words } })) looked) in
+    subst (OnlyPublished v) (sym e) record {
+      same = refl;
+      adds = (clock_at r ∷ [], refl);
+      number = refl;
+      published = refl;
+    }
+
+-- the words that were stored may be published
+pub may_publish : (v : View) (places : List Place) (new : ℕ) → CanWrite v → v.attempt.number + 1 < 2 ^ 28 → AreListed v.size.slots places
+    → ListsTo places (word_in v.attempt.words) (length places) → new ≡ packed (record { number = v.attempt.number + 1; stage = Undecided }) → MayPublish v new
+may_publish v places new may lt all so is = (
+  attempt_of (map change_of places),
+  is,
+  record {
+    may = may;
+    number = lt;
+    formed = formed v.size.slots places all;
+    words = describes v.size.slots places (word_in v.attempt.words) so;
+  },
+)
+
+pub has_published : (v w : View) (places : List Place) → w ≡ after_publish v → v.posted ≡ false → v.attempt.number + 1 < 2 ^ 28
+    → ListsTo places (word_in v.attempt.words) (length places) → HasPublished w places
+has_published v w places told none lt so = subst (λ (x : View). HasPublished x places) (sym told) record {
+  published = refl;
+  none_posted = none;
+  number = lt;
+  describes = describes v.size.slots places (word_in v.attempt.words) so;
+}
+
+module _ (v : View) (places : List Place) (has : HasPublished v places) (all : AreListed v.size.slots places) (seated : v.seat < v.size.seats) where
+  knows_word : (place x : ℕ) → place < descriptor_words v.size.slots → word_in v.attempt.words place ≡ x → KnowsWord v v.seat v.attempt.number place x
+  knows_word place x lt is = inr (refl, refl, has.none_posted, has.published, lt, is)
+
+  -- a word that is listed is known to be one of the own exchange
+  pub knows_place : (op : Ref) (i : ℕ) (p : Place) → op.seat ≡ v.seat → op.number ≡ v.attempt.number → get_elem? places i ≡ some p → KnowsPlace v op p
+  unfolding knows_word listed_as
+  knows_place op i p seat number at =
+      let lt = below_length places i p at in let few = all.few in
+      let e = has.describes.each_change i (change_of p) (listed_as places i p at) in
+      let change_known : KnowsChange v v.seat v.attempt.number i p.node p.field p.old p.new = record {
+        count = length places;
+        below = lt;
+        known_count = knows_word 1 (length places) (omega arith) (has.describes.changes ∙ length-map places change_of);
+        known_place = knows_word (3 + 3 * i) (place_number p.node p.field) (omega arith) e.0;
+        known_old = knows_word (4 + 3 * i) p.old (omega arith) e.1;
+        known_new = knows_word (5 + 3 * i) p.new (omega arith) e.2;
+      } in
+      let fits = fits_at v.size.slots places all i p at in
+      inr (
+        ((subst (λ s. s < v.size.seats) (sym seat) seated, subst (λ a. a < 2 ^ 28) (sym number) has.number), fits.0, fits.1, fits.2),
+        i,
+        subst (λ s. KnowsChange v s op.number i p.node p.field p.old p.new) (sym seat)
+            (subst (λ a. KnowsChange v v.seat a i p.node p.field p.old p.new) (sym number) change_known),
+      )

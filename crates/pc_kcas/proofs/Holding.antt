@@ -1,0 +1,78 @@
+-- What holds of a published exchange, and of its words that held, after more installs.
+use Rattle.std.proofs.Common.{◌≡◌, ℕ, ◌<◌, ◌^◌, true, false, List, [], length, map, get_or, refl, sym, ap, ap₂, ◌∙◌, subst}
+use mathlib.Core.Option.{some}
+use lib.ListN.{get_elem?}
+use Rattle.pc_model.specs.declared.shape.Shape.{Ghosts}
+use Rattle.pc_rule_law.specs.Board.{Size}
+use Rattle.pc_rule_law.specs.Openings.{attempt_of}
+use Rattle.pc_rule_law.specs.Past.{Describes}
+use Rattle.pc_rule_law.specs.Plays.{AddsNotes, IsNotedSince}
+use Rattle.pc_rule_law.specs.Views.{View, OwnAttempt, held, word_in}
+use Rattle.pc_rule.specs.declared.board.Pass.{Pass}
+use Rattle.pc_rule.specs.declared.opening.Place.{Place}
+use Rattle.pc_rule.specs.declared.refs.Ref.{Ref}
+use Rattle.pc_rule.specs.declared.refs.RefKind.TheVariants.{Exchange}
+use Rattle.pc_rule.specs.Passes.{view, listed, IsSamePass}
+use Rattle.pc_rule.proofs.Calls.{read_at}
+use Rattle.pc_rule.specs.Starting.{change_of}
+use Rattle.pc_dcss.specs.declared.installed.Installed.{Installed}
+use Rattle.pc_dcss.specs.declared.installed.Installed.TheVariants.{Held}
+use Rattle.pc_dcss.specs.Installs.{KeepsAttempt, OnHeld}
+use Rattle.pc_dcss.proofs.Staying.{adds_then, noted_before, noted_after}
+use Rattle.pc_kcas.specs.Exchanges.{HasPublished, IsPublished, IsHeldAt, IsStopped, IsStoppedAt, own_exchange}
+
+pub published_still : (v w : View) (old new : List Place) → KeepsAttempt v w → w.size ≡ v.size → new ≡ old → HasPublished v old → HasPublished w new
+published_still v w old new keeps sized same has = record {
+  published = ap (λ (a : OwnAttempt). a.published) keeps.0 ∙ has.published;
+  none_posted = keeps.1 ∙ has.none_posted;
+  number = subst (λ (a : OwnAttempt). a.number < 2 ^ 28) (sym keeps.0) has.number;
+  describes = subst (λ (l : List Place). Describes w.size.slots (attempt_of (map change_of l)) (word_in w.attempt.words)) (sym same)
+      (subst (λ (z : Size). Describes z.slots (attempt_of (map change_of old)) (word_in w.attempt.words)) (sym sized)
+      (subst (λ (a : OwnAttempt). Describes v.size.slots (attempt_of (map change_of old)) (word_in a.words)) (sym keeps.0) has.describes));
+}
+
+module _ {H : Type 0} {S : Ghosts H} where
+  pub pass_published : (p q : Pass H S) → IsSamePass p q → KeepsAttempt (view p) (view q) → IsPublished p → IsPublished q
+  pass_published p q same keeps has = published_still (view p) (view q) (listed p) (listed q) keeps same.0.1 (ap (λ v. v.items) same.1) has
+
+  -- what holds of the exchange that was named and of the word that was read holds of the pass's own exchange and word
+  pub own_word : (p q : Pass H S) (i seat number : ℕ) (now : List Place) (d : Place) (P : Ref → Place → Type 0) → now ≡ listed p → seat ≡ (view p).seat
+      → number ≡ (view p).attempt.number → IsSamePass p q → KeepsAttempt (view p) (view q) → P (record { kind = Exchange; seat = seat; number = number }) (get_or now i d)
+      → (x : Place) → get_elem? (listed q) i ≡ some x → P (own_exchange q) x
+  own_word p q i seat number now d P is s n same keeps holds x at =
+      let read : get_or now i d ≡ x = read_at now i x d (subst (λ (l : List Place). get_elem? l i ≡ some x) (ap (λ v. v.items) same.1 ∙ sym is) at) in
+      let op : record { kind = Exchange; seat = seat; number = number } ≡ own_exchange q =
+      ap₂ (λ (a b : ℕ). record { kind = Exchange; seat = a; number = b }) (s ∙ sym same.0.2) (n ∙ sym (ap (λ (a : OwnAttempt). a.number) keeps.0)) in
+      subst (λ (r : Ref). P r x) op (subst (P (record { kind = Exchange; seat = seat; number = number })) read holds)
+
+  pub held_at : (p q : Pass H S) (i seat number : ℕ) (now : List Place) (d : Place) (answer : Installed) → now ≡ listed p → seat ≡ (view p).seat
+      → number ≡ (view p).attempt.number → IsSamePass p q → KeepsAttempt (view p) (view q) → answer ≡ Held
+      → OnHeld answer (IsNotedSince (view p) (view q) (held seat number (get_or now i d).node (get_or now i d).field)) → IsHeldAt p q i
+  unfolding own_word
+  held_at p q i seat number now d answer is s n same keeps at_held told = own_word p q i seat number now d
+      (λ r x. IsNotedSince (view p) (view q) (held r.seat r.number x.node x.field)) is s n same keeps
+      (subst (λ a. OnHeld a (IsNotedSince (view p) (view q) (held seat number (get_or now i d).node (get_or now i d).field))) at_held told)
+
+  pub stopped_at : (p q : Pass H S) (i seat number : ℕ) (now : List Place) (d : Place) → now ≡ listed p → seat ≡ (view p).seat
+      → number ≡ (view p).attempt.number → IsSamePass p q → KeepsAttempt (view p) (view q)
+      → IsStopped (view p) (view q) (record { kind = Exchange; seat = seat; number = number }) (get_or now i d) → IsStoppedAt p q i
+  unfolding own_word
+  stopped_at p q i seat number now d is s n same keeps stopped = own_word p q i seat number now d
+      (λ r x. (v : View) × AddsNotes (view p) v × IsStopped v (view q) r x) is s n same keeps (view p, ([], refl), stopped)
+
+  -- what held before more installs, and in them
+  pub held_still : (o p q : Pass H S) (i : ℕ) → IsSamePass p q → KeepsAttempt (view p) (view q) → AddsNotes (view p) (view q) → IsHeldAt o p i → IsHeldAt o q i
+  held_still o p q i same keeps adds is x at =
+      let there : get_elem? (listed p) i ≡ some x = subst (λ (l : List Place). get_elem? l i ≡ some x) (ap (λ v. v.items) same.1) at in
+      subst (λ s. IsNotedSince (view o) (view q) (held s (view q).attempt.number x.node x.field)) (sym same.0.2)
+      (subst (λ (a : OwnAttempt). IsNotedSince (view o) (view q) (held (view p).seat a.number x.node x.field)) (sym keeps.0)
+      (noted_before (view o) (view p) (view q) (held (view p).seat (view p).attempt.number x.node x.field) (is x there) adds))
+
+  pub held_since : (o p q : Pass H S) (i : ℕ) → AddsNotes (view o) (view p) → IsHeldAt p q i → IsHeldAt o q i
+  held_since o p q i adds is x at = noted_after (view o) (view p) (view q) (held (view q).seat (view q).attempt.number x.node x.field) adds (is x at)
+
+  pub stopped_since : (o p q : Pass H S) (i : ℕ) → AddsNotes (view o) (view p) → IsStoppedAt p q i → IsStoppedAt o q i
+  stopped_since o p q i adds is x at = let s = is x at in (s.0, adds_then (view o) (view p) s.0 adds s.1, s.2)
+
+  pub adds_more : (o p q : Pass H S) → AddsNotes (view o) (view p) → AddsNotes (view p) (view q) → AddsNotes (view o) (view q)
+  adds_more o p q a b = adds_then (view o) (view p) (view q) a b

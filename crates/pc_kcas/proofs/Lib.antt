@@ -1,0 +1,3 @@
+mod Attempts
+mod Holding
+mod Words

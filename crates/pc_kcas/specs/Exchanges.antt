@@ -1,0 +1,99 @@
+-- What clauses say of an exchange of several words, from its list to its installs.
+use Rattle.std.specs.Prelude.{◌≡◌, ℕ, ◌+◌, ◌*◌, ◌-◌, ◌^◌, ◌<◌, true, false, List, ◌∷◌, length, map}
+use Rattle.std.specs.List.{All}
+use mathlib.Core.Option.{some}
+use lib.ListN.{get_elem?}
+use Rattle.pc_model.specs.declared.cell.Field.TheVariants.{Version}
+use Rattle.pc_model.specs.declared.shape.Shape.{Ghosts}
+use Rattle.pc_model.specs.Cells.{IsEven}
+use Rattle.pc_rule_law.specs.Openings.{attempt_of}
+use Rattle.pc_rule_law.specs.Past.{Has, Describes}
+use Rattle.pc_rule_law.specs.Plays.{after_write, AddsNotes, IsNotedSince}
+use Rattle.pc_rule_law.specs.Views.{View, held, word_in}
+use Rattle.pc_rule.specs.declared.board.Pass.{Pass}
+use Rattle.pc_rule.specs.declared.opening.Place.{Place}
+use Rattle.pc_rule.specs.declared.refs.Ref.{Ref}
+use Rattle.pc_rule.specs.declared.refs.RefKind.TheVariants.{Exchange}
+use Rattle.pc_rule.specs.Listed.{word_number}
+use Rattle.pc_rule.specs.Passes.{view, listed}
+use Rattle.pc_rule.specs.Starting.{change_of}
+use Rattle.pc_dcss.specs.declared.installed.Installed.{Installed}
+use Rattle.pc_dcss.specs.Installs.{KnowsPlace, IsDecidedSince, IsDifferent, IsMet, HasNoNumber, OnHeld, OnDecided, IfDiffers, IfMet, IfNumbers}
+
+-- a version is changed from an even number
+abbrev pub IsFromEven : Place → Type 0
+IsFromEven p = p.field ≡ Version → IsEven p.old
+
+-- of each node with a word here the version is among them too, and rises by 2
+abbrev pub RaisesVersions : List Place → Type 0
+RaisesVersions places = All (λ p. (v : Place) × Has places v × (v.node ≡ p.node) × (v.field ≡ Version) × (v.new ≡ v.old + 2)) places
+
+-- the last number of an attempt
+abbrev pub last_attempt : ℕ
+last_attempt = 2 ^ 28 - 1
+
+-- the number of changes stands in the descriptor, with mode 0 and no visits, and the words of the changes below i
+pub record ListsTo (places : List Place) (word : ℕ → ℕ) (i : ℕ) : Type 0 where
+  pub mode : word 0 ≡ 0
+  pub changes : word 1 ≡ length places
+  pub visits : word 2 ≡ 0
+  pub each : (j : ℕ) (p : Place) → j < i → get_elem? places j ≡ some p
+      → (word (3 + 3 * j) ≡ word_number p) × (word (4 + 3 * j) ≡ p.old) × (word (5 + 3 * j) ≡ p.new)
+
+-- the pass stored words of its descriptor, and is otherwise as it was
+abbrev pub OnlyWrote : View → View → Type 0
+OnlyWrote v w = w ≡ record v { attempt = record v.attempt { words = w.attempt.words } }
+
+-- after stores of the mode and the two counts, and of the three words of one change
+abbrev pub counts_written : View → ℕ → View
+counts_written v count = after_write (after_write (after_write v 0 0) 1 count) 2 0
+
+abbrev pub change_written : View → ℕ → Place → View
+change_written v i p = after_write (after_write (after_write v (3 + 3 * i) (word_number p)) (4 + 3 * i) p.old) (5 + 3 * i) p.new
+
+-- the pass has one attempt more, which is published, and noted some, and is otherwise as it was
+pub record OnlyPublished (v w : View) : Type 0 where
+  pub same : w ≡ record v { attempt = w.attempt; notes = w.notes }
+  pub adds : AddsNotes v w
+  pub number : w.attempt.number ≡ v.attempt.number + 1
+  pub published : w.attempt.published ≡ true
+
+-- the last attempt is published, and the words of its descriptor are those of these changes
+pub record HasPublished (v : View) (places : List Place) : Type 0 where
+  pub published : v.attempt.published ≡ true
+  pub none_posted : v.posted ≡ false
+  pub number : v.attempt.number < 2 ^ 28
+  pub describes : Describes v.size.slots (attempt_of (map change_of places)) (word_in v.attempt.words)
+
+module _ {H : Type 0} {S : Ghosts H} where
+  -- the exchange of the pass's last attempt
+  abbrev pub own_exchange : Pass H S → Ref
+  own_exchange p = record { kind = Exchange; seat = (view p).seat; number = (view p).attempt.number }
+
+  -- its last attempt is published, with the words that it lists
+  abbrev pub IsPublished : Pass H S → Type 0
+  IsPublished p = HasPublished (view p) (listed p)
+
+  -- each word that it lists is known to be one of its exchange
+  abbrev pub KnowsListed : Pass H S → Type 0
+  KnowsListed p = All (KnowsPlace (view p) (own_exchange p)) (listed p)
+
+  -- that the word at this index held the reference of the pass's exchange was noted since
+  abbrev pub IsHeldAt : Pass H S → Pass H S → ℕ → Type 0
+  IsHeldAt old new i = (p : Place) → get_elem? (listed new) i ≡ some p
+      → IsNotedSince (view old) (view new) (held (view new).seat (view new).attempt.number p.node p.field)
+
+-- an install in this word gave another answer than held, with what that answer says
+pub record IsStopped (v w : View) (op : Ref) (place : Place) : Type 0 where
+  pub answer : Installed
+  pub not_held : OnHeld answer ⊥
+  pub decided : OnDecided answer (IsDecidedSince v w op.seat op.number)
+  pub differs : IfDiffers answer (IsDifferent v w place)
+  pub met : IfMet answer (IsMet v w op place)
+  pub numbers : IfNumbers answer (HasNoNumber v w)
+
+module _ {H : Type 0} {S : Ghosts H} where
+  -- the install in the word at this index, which the pass made since, stopped
+  abbrev pub IsStoppedAt : Pass H S → Pass H S → ℕ → Type 0
+  IsStoppedAt old new i = (p : Place) → get_elem? (listed new) i ≡ some p
+      → (v : View) × AddsNotes (view old) v × IsStopped v (view new) (own_exchange new) p
