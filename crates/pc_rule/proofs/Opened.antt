@@ -15,7 +15,7 @@ use Rattle.pc_rule_law.proofs.Lists.{below_length}
 use Rattle.pc_rule.specs.declared.board.Board.{Board}
 use Rattle.pc_rule.specs.declared.board.Pass.{Pass}
 use Rattle.pc_rule.specs.declared.share.Share.{Share}
-use Rattle.pc_rule.specs.Passes.{view, board_size, recorded, IsPassOf}
+use Rattle.pc_rule.specs.Passes.{view, board_size, recorded, listed, IsPassOf}
 use Rattle.pc_rule.specs.Opened.{last_view, AreOpened}
 use Rattle.pc_rule.specs.Recorded.{HaveShares}
 use Rattle.pc_rule.specs.Shares.{AreAll, AllNoted, NoneTried}
@@ -30,12 +30,13 @@ module _ {H : Type 0} {S : Ghosts H} (b : Board H) (o : Opening) where
     posted : (view p).posted ≡ o.posted
     attempt : (view p).attempt ≡ opening_own (size_of o)
     none : recorded p ≡ []
+    unlisted : listed p ≡ []
 
   module _ (passes : List (Pass H S)) (opened : AreOpened b o passes) where
     each_new : (i : ℕ) (p : Pass H S) → get_elem? passes i ≡ some p → IsNew i p
     each_new i p at = let q = opened.1 i p at in let lt : i < length passes = below_length passes i p at in let n : length passes ≡ o.seats = opened.0 in dite (ℕ_discrete (i + 1) o.seats)
-        (λ e. let l = q.1 e in let is : view p ≡ last_view o i = l.1 in record { of = l.0; seat = ap (λ (v : View). v.seat) is; fresh = ap (λ (v : View). v.fresh) is; notes = ap (λ (v : View). v.notes) is; posted = ap (λ (v : View). v.posted) is; attempt = ap (λ (v : View). v.attempt) is; none = l.2 })
-        (λ ne. let m = q.0 (omega arith) in let is : view p ≡ maker (last_view o i) = m.1 in record { of = m.0; seat = ap (λ (v : View). v.seat) is; fresh = ap (λ (v : View). v.fresh) is; notes = ap (λ (v : View). v.notes) is; posted = ap (λ (v : View). v.posted) is; attempt = ap (λ (v : View). v.attempt) is; none = m.2 })
+        (λ e. let l = q.1 e in let is : view p ≡ last_view o i = l.1 in record { of = l.0; seat = ap (λ (v : View). v.seat) is; fresh = ap (λ (v : View). v.fresh) is; notes = ap (λ (v : View). v.notes) is; posted = ap (λ (v : View). v.posted) is; attempt = ap (λ (v : View). v.attempt) is; none = l.2; unlisted = l.4 })
+        (λ ne. let m = q.0 (omega arith) in let is : view p ≡ maker (last_view o i) = m.1 in record { of = m.0; seat = ap (λ (v : View). v.seat) is; fresh = ap (λ (v : View). v.fresh) is; notes = ap (λ (v : View). v.notes) is; posted = ap (λ (v : View). v.posted) is; attempt = ap (λ (v : View). v.attempt) is; none = m.2; unlisted = m.3 })
 
     pub all_opened : 0 < o.seats → board_size b ≡ size_of o → length b.shares.items ≡ o.seats → AreAll b passes
     all_opened one sized shares = let seats : (board_size b).seats ≡ o.seats = ap (λ (z : Size). z.seats) sized in record {
@@ -57,4 +58,4 @@ module _ {H : Type 0} {S : Ghosts H} (b : Board H) (o : Opening) where
 
     pub none_tried : o.posted ≡ false → board_size b ≡ size_of o → NoneTried passes
     none_tried off sized i p at = let is = each_new i p at in
-        (is.posted ∙ off, is.attempt ∙ ap opening_own (sym (is.of.1 ∙ sized)))
+        (is.posted ∙ off, is.attempt ∙ ap opening_own (sym (is.of.1 ∙ sized)), is.unlisted)

@@ -10,7 +10,7 @@ use Rattle.pc_rule_law.specs.Tables.{size_of, note_of}
 use Rattle.pc_rule_law.specs.Views.{View}
 use Rattle.pc_rule.specs.declared.board.Board.{Board}
 use Rattle.pc_rule.specs.declared.board.Pass.{Pass}
-use Rattle.pc_rule.specs.Passes.{view, recorded, IsPassOf}
+use Rattle.pc_rule.specs.Passes.{view, recorded, listed, IsPassOf}
 use Rattle.pc_rule.specs.Recorded.{HasRoomFor}
 
 -- the view of the pass at a seat: it has made the next one, or is the last
@@ -18,19 +18,19 @@ abbrev pub last_view : Opening → ℕ → View
 last_view o i = new_view (size_of o) i o.posted (map note_of o.given.items)
 
 module _ {H : Type 0} {S : Ghosts H} where
-  -- these passes have the seats from 0 on, none is the last one, and none recorded a call
+  -- these passes have the seats from 0 on, none is the last one, and none recorded a call or lists a word
   abbrev pub AreMade : Board H → Opening → List (Pass H S) → Type 0
-  AreMade b o passes = (i : ℕ) (p : Pass H S) → get_elem? passes i ≡ some p → IsPassOf b p × (view p ≡ maker (last_view o i)) × (recorded p ≡ [])
+  AreMade b o passes = (i : ℕ) (p : Pass H S) → get_elem? passes i ≡ some p → IsPassOf b p × (view p ≡ maker (last_view o i)) × (recorded p ≡ []) × (listed p ≡ [])
 
-  -- the last pass that was made: it knows that it is, recorded no call, and has room for all calls where it has the
+  -- the last pass that was made: it knows that it is, recorded no call, lists no word, and has room for all calls where it has the
   -- highest seat
   abbrev pub IsLastMade : Board H → Opening → ℕ → Pass H S → Type 0
-  IsLastMade b o i p = IsPassOf b p × (view p ≡ last_view o i) × (recorded p ≡ []) × (i + 1 ≡ o.seats → HasRoomFor b.shares.items p)
+  IsLastMade b o i p = IsPassOf b p × (view p ≡ last_view o i) × (recorded p ≡ []) × (i + 1 ≡ o.seats → HasRoomFor b.shares.items p) × (listed p ≡ [])
 
   -- all passes of the board: one for each seat, in order, and the last one knows that it is
   abbrev pub AreOpened : Board H → Opening → List (Pass H S) → Type 0
   AreOpened b o passes = (length passes ≡ o.seats)
-      × ((i : ℕ) (p : Pass H S) → get_elem? passes i ≡ some p → (i + 1 < o.seats → IsPassOf b p × (view p ≡ maker (last_view o i)) × (recorded p ≡ [])) × (i + 1 ≡ o.seats → IsLastMade b o i p))
+      × ((i : ℕ) (p : Pass H S) → get_elem? passes i ≡ some p → (i + 1 < o.seats → IsPassOf b p × (view p ≡ maker (last_view o i)) × (recorded p ≡ []) × (listed p ≡ [])) × (i + 1 ≡ o.seats → IsLastMade b o i p))
 
   -- passes with the seats from 0 on, of which no install stands
   abbrev pub AreInOrder : Board H → List (Pass H S) → Type 0

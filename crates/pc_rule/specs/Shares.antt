@@ -13,7 +13,7 @@ use Rattle.pc_rule.specs.declared.board.Pass.{Pass}
 use Rattle.pc_rule.specs.declared.opening.Place.{Place}
 use Rattle.pc_rule.specs.declared.opening.Posted.{Posted}
 use Rattle.pc_rule.specs.declared.share.Share.{Share}
-use Rattle.pc_rule.specs.Passes.{view, board_size}
+use Rattle.pc_rule.specs.Passes.{view, board_size, listed}
 use Rattle.pc_rule.specs.Opened.{AreInOrder}
 use Rattle.pc_rule.specs.Recorded.{HasRoomFor}
 
@@ -60,6 +60,7 @@ module _ {H : Type 0} {S : Ghosts H} where
   abbrev pub AllNoted : List (Pass H S) → List Note → Type 0
   AllNoted passes notes = (i : ℕ) (p : Pass H S) → get_elem? passes i ≡ some p → (view p).notes ≡ notes
 
-  -- each pass may publish: no exchange was given at the opening, it has made no attempt, and stored no word of its descriptor
+  -- each pass may publish: no exchange was given at the opening, it has made no attempt, stored no word of its descriptor,
+  -- and lists no word
   abbrev pub NoneTried : List (Pass H S) → Type 0
-  NoneTried passes = (i : ℕ) (p : Pass H S) → get_elem? passes i ≡ some p → ((view p).posted ≡ false) × ((view p).attempt ≡ opening_own (view p).size)
+  NoneTried passes = (i : ℕ) (p : Pass H S) → get_elem? passes i ≡ some p → ((view p).posted ≡ false) × ((view p).attempt ≡ opening_own (view p).size) × (listed p ≡ [])

@@ -11,7 +11,7 @@ ghost use Rattle.pc_rule_law.specs.Conditions.{IsFree};
 ghost use Rattle.pc_rule_law.specs.Openings.{MayOpen, opening_notes};
 ghost use Rattle.pc_rule_law.specs.Seats.{maker, made_by, joined_by};
 ghost use Rattle.pc_rule_law.specs.Tables.{size_of, note_of, first_view, sound_cells};
-ghost use Rattle.pc_rule.specs.Passes.{view, board_size, share_of, recorded, SitsAt, IsPassOf};
+ghost use Rattle.pc_rule.specs.Passes.{view, board_size, share_of, recorded, listed, SitsAt, IsPassOf};
 ghost use Rattle.pc_rule.specs.Recorded.{calls_of, recorded_by, HasRoomFor};
 ghost use Rattle.pc_rule.specs.Opened.{AreOpened, AreInOrder};
 ghost use Rattle.pc_rule.specs.Starting.{all_posted};
@@ -41,6 +41,7 @@ impl<H: Shape> Board<H> {
         requires shares { (length shares.now ≡ opening.now.seats) × (1 ≤ length shares.now) }
         ensures opened { IfOk result (λ r. (board_size r.0 ≡ size_of opening.now) × (r.0.shares.items ≡ shares.now) × IsPassOf r.0 r.1 × (view r.1 ≡ first_view opening.now)) }
         ensures room { IfOk result (λ r. (recorded r.1 ≡ []) × (1 ≡ length shares.now → HasRoomFor shares.now r.1)) }
+        ensures list { IfOk result (λ r. listed r.1 ≡ []) }
     {
         let entries = room_for(alloc, shares, 0)?;
         let listed = list_room(alloc)?;
@@ -80,17 +81,18 @@ impl<H: Shape> Board<H> {
         index: usize,
         share: Share,
         entries: Vec<Entry>,
-        listed: Vec<Place>,
+        places: Vec<Place>,
     ) -> Pass<H>
         requires pass { IsPassOf self.now last.old × ((view last.old).last ≡ true) }
         requires index { ((view last.old).seat + 1 ≡ index) × (index < (board_size self.now).seats) }
         requires share { get_elem? self.now.shares.items index ≡ some share }
         requires room { (entries.items ≡ []) × (share.calls ≤ vec_capacity entries) }
-        requires list { (listed.items ≡ []) × (24 ≤ vec_capacity listed) }
+        requires list { (places.items ≡ []) × (24 ≤ vec_capacity places) }
         ensures pass { IsPassOf self.now last.new × (view last.new ≡ maker (view last.old)) }
-        ensures kept { recorded last.new ≡ recorded last.old }
+        ensures kept { (recorded last.new ≡ recorded last.old) × (listed last.new ≡ listed last.old) }
         ensures made { IsPassOf self.now result × (view result ≡ made_by (view last.old)) }
         ensures room { (recorded result ≡ []) × (vec_capacity result.entries ≡ vec_capacity entries) }
+        ensures list { listed result ≡ [] }
     {
         let seat = self.table.shared.split_seat::<MakePass>(&mut last.seat);
         Pass {
@@ -101,7 +103,7 @@ impl<H: Shape> Board<H> {
             published: false,
             share,
             entries,
-            listed,
+            listed: places,
             shape: PhantomData,
         }
     }
