@@ -1,2 +1,3 @@
 pub mod FirstTwo
+pub mod Published
 pub mod Slices

@@ -5,6 +5,8 @@
 #[cfg(test)]
 mod boards;
 #[cfg(test)]
+mod exchanges;
+#[cfg(test)]
 mod installs;
 #[cfg(test)]
 mod meetings;

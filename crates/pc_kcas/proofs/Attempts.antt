@@ -1,6 +1,6 @@
 -- The attempt that a list is: it is formed, the words that were stored describe it, and once it is published each place of
 -- the list is known to be one of it.
-use Rattle.std.proofs.Common.{◌≡◌, ◌≢◌, ◌⊎◌, ℕ, zero, suc, ◌+◌, ◌*◌, ◌^◌, ◌<◌, ◌≤◌, true, false, List, [], ◌∷◌, length, map, get_or, refl, sym, ap, ap₂, ◌∙◌, subst, inr, ⊎_elim, arith}
+use Rattle.std.proofs.Common.{◌≡◌, ◌≢◌, ◌⊎◌, ℕ, zero, suc, ◌+◌, ◌*◌, ◌^◌, ◌<◌, ◌≤◌, true, false, List, [], ◌∷◌, length, map, get_or, refl, sym, ap, ap₂, ◌∙◌, subst, inl, inr, ⊎_elim, arith}
 use Rattle.std.proofs.lemmas.Bool.{cases_order}
 use Rattle.std.proofs.lemmas.List.{length-map}
 use Rattle.std.specs.List.{All}
@@ -11,27 +11,21 @@ use Rattle.pc_model.specs.Exchanges.{Changed}
 use Rattle.pc_words.specs.declared.status.Stage.TheVariants.{Undecided}
 use Rattle.pc_words.specs.Statuses.{packed}
 use Rattle.pc_rule_law.specs.Board.{place_number, descriptor_words}
-use Rattle.pc_rule_law.specs.Conditions.{CanWrite, CanPublish, KnowsWord, KnowsChange}
+use Rattle.pc_rule_law.specs.Conditions.{IsFree, CanWrite, CanPublish, KnowsWord, KnowsChange}
 use Rattle.pc_rule_law.specs.Openings.{attempt_of}
-use Rattle.pc_rule_law.specs.Past.{Attempt, Describes, IsFormed}
+use Rattle.pc_rule_law.specs.Past.{Has, Attempt, Describes, IsFormed}
 use Rattle.pc_rule_law.specs.Plays.{after_publish}
-use Rattle.pc_rule_law.specs.Views.{View, clock_at, word_in, with_notes}
-use Rattle.pc_rule_law.proofs.Lists.{below_length, element_at}
+use Rattle.pc_rule_law.specs.Views.{Note, View, clock_at, removed, word_in, with_notes}
+use Rattle.pc_rule_law.proofs.Lists.{below_length, has_later}
 use Rattle.pc_rule.specs.declared.opening.Place.{Place}
 use Rattle.pc_rule.specs.declared.refs.Ref.{Ref}
 use Rattle.pc_rule.specs.Conditions.{MayPublish}
 use Rattle.pc_rule.specs.Listed.{word_number, FitsWord, AreListed}
 use Rattle.pc_rule.specs.Starting.{change_of}
 use Rattle.pc_rule.proofs.Calls.{read_at}
+use Rattle.pc_rule.proofs.Sharing.{from_map}
 use Rattle.pc_dcss.specs.Installs.{KnowsPlace}
 use Rattle.pc_kcas.specs.Exchanges.{ListsTo, OnlyWrote, OnlyPublished, HasPublished}
-
--- a change of the attempt is that of a listed place
-listed_at : (places : List Place) (i : ℕ) (x : Changed) → get_elem? (map change_of places) i ≡ some x
-    → (p : Place) × (get_elem? places i ≡ some p) × (change_of p ≡ x)
-listed_at [] i x at = absurd (some-ne-none x (sym at))
-listed_at (p ∷ places) zero x at = (p, refl, some-injective (change_of p) x at)
-listed_at (p ∷ places) (suc i) x at = listed_at places i x at
 
 listed_as : (places : List Place) (i : ℕ) (p : Place) → get_elem? places i ≡ some p → get_elem? (map change_of places) i ≡ some (change_of p)
 listed_as [] i p at = absurd (some-ne-none p (sym at))
@@ -39,12 +33,11 @@ listed_as (q ∷ places) zero p at = ap (λ (r : Place). some (change_of r)) (so
 listed_as (q ∷ places) (suc i) p at = listed_as places i p at
 
 pub describes : (slots : ℕ) (places : List Place) (word : ℕ → ℕ) → ListsTo places word (length places) → Describes slots (attempt_of (map change_of places)) word
-unfolding listed_at
 describes slots places word so = record {
   mode = so.mode;
   changes = so.changes ∙ sym (length-map places change_of);
   visits = so.visits;
-  each_change = λ i x at. let p = listed_at places i x at in
+  each_change = λ i x at. let p = from_map change_of places i x at in
       subst (λ (y : Changed). (word (3 + 3 * i) ≡ place_number y.node y.field) × (word (4 + 3 * i) ≡ y.old) × (word (5 + 3 * i) ≡ y.new)) p.2
       (so.each i p.0 (below_length places i p.0 p.1) p.1);
   each_visit = λ i x at. absurd (some-ne-none x (sym at));
@@ -65,13 +58,13 @@ module _ (slots : ℕ) (places : List Place) (all : AreListed slots places) wher
       (λ ne. ⊎_elim (λ (lt : i < j). absurd (apart_at i j p q lt at_p at_q same)) (λ (lt : j < i). absurd (apart_at j i q p lt at_q at_p (sym same))) ne) (cases_order i j)
 
   pub formed : IsFormed slots (attempt_of (map change_of places))
-  unfolding listed_at fits_at one_index
+  unfolding fits_at one_index
   formed = record {
     few = (let n = length-map places change_of in let few = all.few in omega arith);
     few_visits = omega arith;
-    inside = λ x has. let p = listed_at places has.0 x has.1 in
+    inside = λ x has. let p = from_map change_of places has.0 x has.1 in
         subst (λ (y : Changed). IsNode slots y.node × (y.old < 2 ^ 62) × (y.new < 2 ^ 62)) p.2 (fits_at has.0 p.0 p.1);
-    apart = λ i j x y at_x at_y node field. let p = listed_at places i x at_x in let q = listed_at places j y at_y in
+    apart = λ i j x y at_x at_y node field. let p = from_map change_of places i x at_x in let q = from_map change_of places j y at_y in
         one_index i j p.0 q.0 p.1 q.1 (ap₂ place_number (ap (λ (c : Changed). c.node) p.2 ∙ (node ∙ sym (ap (λ (c : Changed). c.node) q.2)))
         (ap (λ (c : Changed). c.field) p.2 ∙ (field ∙ sym (ap (λ (c : Changed). c.field) q.2))));
   }
@@ -84,7 +77,7 @@ only_published v u t w r words looked wrote told =
     told ∙ (ap after_publish wrote ∙ ap (λ (x : View). after_publish (record x { attempt = record x.attempt { words = words } })) looked) in
     subst (OnlyPublished v) (sym e) record {
       same = refl;
-      adds = (clock_at r ∷ [], refl);
+      clock = (r, refl);
       number = refl;
       published = refl;
     }
@@ -137,3 +130,12 @@ module _ (v : View) (places : List Place) (has : HasPublished v places) (all : A
         subst (λ s. KnowsChange v s op.number i p.node p.field p.old p.new) (sym seat)
             (subst (λ a. KnowsChange v v.seat a i p.node p.field p.old p.new) (sym number) change_known),
       )
+
+-- of a pass that published no install stands where none stood
+pub free_published : (v w : View) → OnlyPublished v w → IsFree v → IsFree w
+free_published v w told free = ⊎_elim
+    (λ (fresh : v.fresh ≡ true). inl (ap (λ (x : View). x.fresh) told.same ∙ fresh))
+    (λ has. inr (subst (λ (n : ℕ). Has w.notes (removed w.seat n)) (sym (ap (λ (x : View). x.install.number) told.same))
+        (subst (λ (s : ℕ). Has w.notes (removed s v.install.number)) (sym (ap (λ (x : View). x.seat) told.same))
+        (subst (λ (l : List Note). Has l (removed v.seat v.install.number)) (sym told.clock.1) (has_later (clock_at told.clock.0) v.notes (removed v.seat v.install.number) has)))))
+    free

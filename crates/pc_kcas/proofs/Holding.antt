@@ -17,7 +17,8 @@ use Rattle.pc_rule.proofs.Calls.{read_at}
 use Rattle.pc_rule.specs.Starting.{change_of}
 use Rattle.pc_dcss.specs.declared.installed.Installed.{Installed}
 use Rattle.pc_dcss.specs.declared.installed.Installed.TheVariants.{Held}
-use Rattle.pc_dcss.specs.Installs.{KeepsAttempt, OnHeld}
+use Rattle.pc_dcss.specs.Installs.{KnowsPlace, KeepsNotes, KeepsAttempt, OnHeld}
+use Rattle.pc_dcss.proofs.Puts.{place_still}
 use Rattle.pc_dcss.proofs.Staying.{adds_then, noted_before, noted_after}
 use Rattle.pc_kcas.specs.Exchanges.{HasPublished, IsPublished, IsHeldAt, IsStopped, IsStoppedAt, own_exchange}
 
@@ -76,3 +77,12 @@ module _ {H : Type 0} {S : Ghosts H} where
 
   pub adds_more : (o p q : Pass H S) → AddsNotes (view o) (view p) → AddsNotes (view p) (view q) → AddsNotes (view o) (view q)
   adds_more o p q a b = adds_then (view o) (view p) (view q) a b
+
+  -- a word that was known to be one of the own exchange is known still
+  pub knows_still : (p q : Pass H S) → IsSamePass p q → KeepsAttempt (view p) (view q) → KeepsNotes (view p) (view q) → (place : Place)
+      → KnowsPlace (view p) (own_exchange p) place → KnowsPlace (view q) (own_exchange q) place
+  knows_still p q same keeps notes place known =
+      let op : own_exchange p ≡ own_exchange q =
+          ap₂ (λ (a b : ℕ). record { kind = Exchange; seat = a; number = b }) (sym same.0.2) (sym (ap (λ (a : OwnAttempt). a.number) keeps.0)) in
+      subst (λ (r : Ref). KnowsPlace (view q) r place) op
+      (place_still (view p) (view q) record { notes = notes; seat = same.0.2; size = same.0.1; attempt = keeps.0; posted = keeps.1 } (own_exchange p) place known)

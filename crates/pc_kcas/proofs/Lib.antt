@@ -1,3 +1,3 @@
-mod Attempts
-mod Holding
+pub mod Attempts
+pub mod Holding
 mod Words

@@ -9,7 +9,7 @@ use Rattle.pc_model.specs.Cells.{IsEven}
 use Rattle.pc_rule_law.specs.Openings.{attempt_of}
 use Rattle.pc_rule_law.specs.Past.{Has, Describes}
 use Rattle.pc_rule_law.specs.Plays.{after_write, AddsNotes, IsNotedSince}
-use Rattle.pc_rule_law.specs.Views.{View, held, word_in}
+use Rattle.pc_rule_law.specs.Views.{View, clock_at, held, word_in}
 use Rattle.pc_rule.specs.declared.board.Pass.{Pass}
 use Rattle.pc_rule.specs.declared.opening.Place.{Place}
 use Rattle.pc_rule.specs.declared.refs.Ref.{Ref}
@@ -51,10 +51,10 @@ counts_written v count = after_write (after_write (after_write v 0 0) 1 count) 2
 abbrev pub change_written : View → ℕ → Place → View
 change_written v i p = after_write (after_write (after_write v (3 + 3 * i) (word_number p)) (4 + 3 * i) p.old) (5 + 3 * i) p.new
 
--- the pass has one attempt more, which is published, and noted some, and is otherwise as it was
+-- the pass has one attempt more, which is published, and loaded the clock, and is otherwise as it was
 pub record OnlyPublished (v w : View) : Type 0 where
   pub same : w ≡ record v { attempt = w.attempt; notes = w.notes }
-  pub adds : AddsNotes v w
+  pub clock : (c : ℕ) × (w.notes ≡ clock_at c ∷ v.notes)
   pub number : w.attempt.number ≡ v.attempt.number + 1
   pub published : w.attempt.published ≡ true
 

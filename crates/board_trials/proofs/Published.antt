@@ -1,0 +1,48 @@
+-- What is known of a pass that publishes two words, and of an install that it met.
+use Rattle.std.proofs.Common.{◌≡◌, ℕ, List, [], ◌∷◌, length, sym, ap, subst, arith}
+use Rattle.std.specs.Prelude.{OnOk, OnErr}
+use Rattle.std.specs.List.{All}
+use Rattle.std.specs.List.Sorted.{IsPermutation}
+use Rattle.std.specs.declared.result.Result.{Result}
+use Rattle.std.specs.declared.result.Result.TheVariants.{Ok, Err}
+use Rattle.std.proofs.lemmas.List.Sorted.{All-permutation, IsPermutation-sym}
+use mathlib.Core.Option.{some}
+use lib.ListN.{get_elem?}
+use Rattle.pc_model.specs.declared.shape.Shape.{Ghosts}
+use Rattle.pc_model.specs.declared.numbers.Numbers.{Numbers}
+use Rattle.pc_rule_law.specs.Conditions.{IsFree, CanWrite}
+use Rattle.pc_rule_law.specs.Views.{View, OwnAttempt}
+use Rattle.pc_rule.specs.Passes.{view, listed}
+use Rattle.pc_rule.specs.Shares.{NoneTried}
+use Rattle.pc_rule.specs.declared.board.Pass.{Pass}
+use Rattle.pc_rule.specs.declared.opening.Place.{Place}
+use Rattle.pc_rule.specs.declared.refs.Ref.{Ref}
+use Rattle.pc_rule.specs.declared.refs.RefKind.TheVariants.{Install}
+use Rattle.pc_dcss.specs.declared.installed.Installed.{Installed}
+use Rattle.pc_dcss.specs.declared.installed.Installed.TheVariants.{Held, Decided, Differs, Met, Numbers as OutOfNumbers}
+use Rattle.pc_dcss.specs.Installs.{HasMet, IsMet, IfMet}
+use Rattle.pc_dcss.proofs.Meeting.{met_install}
+use Rattle.pc_kcas.specs.Exchanges.{OnlyPublished}
+use Rattle.pc_kcas.proofs.Attempts.{free_published}
+
+pub free_after : (v w : View) (X : Type 0) (r : Result (Unit {0}) Numbers) → OnOk r (OnlyPublished v w) → OnErr r ((w ≡ v) × X) → IsFree v → IsFree w
+free_after v w X (Ok _) only same free = free_published v w only free
+free_after v w X (Err e) only same free = subst IsFree (sym same.0) free
+
+-- what is known of each listed word is known of the first that was listed
+pub known_first : (P : Place → Type 0) (old new rest : List Place) (p : Place) (r : Result (Unit {0}) Numbers) → old ≡ p ∷ rest → OnOk r (IsPermutation old new)
+    → OnOk r (All P new) → OnOk r (P p)
+known_first P old new rest p (Ok _) is same all = All-permutation P new (p ∷ rest) (IsPermutation-sym (p ∷ rest) new (subst (λ (l : List Place). IsPermutation l new) is same)) all 0 p (omega arith)
+known_first P old new rest p (Err e) is same all = tt
+
+pub met_known : (v w : View) (op : Ref) (place : Place) (i : Installed) → IfMet i (IsMet v w op place) → IfMet i (λ r. r.kind ≡ Install → HasMet w r.seat r.number)
+met_known v w op place Held met = tt
+met_known v w op place Decided met = tt
+met_known v w op place (Differs x) met = tt
+met_known v w op place (Met r) met = λ kind. met_install v w op r place met kind
+met_known v w op place (OutOfNumbers n) met = tt
+
+-- a pass of a board that opened may list and publish
+pub may_list : {H : Type 0} {S : Ghosts H} (passes : List (Pass H S)) → NoneTried passes → (i : ℕ) (p : Pass H S) → get_elem? passes i ≡ some p
+    → CanWrite (view p) × (listed p ≡ [])
+may_list passes tried i p at = let o = tried i p at in ((o.0, ap (λ (a : OwnAttempt). a.published) o.1), o.2)
