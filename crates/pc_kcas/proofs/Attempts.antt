@@ -1,9 +1,8 @@
 -- The attempt that a list is: it is formed, the words that were stored describe it, and once it is published each place of
 -- the list is known to be one of it.
-use Rattle.std.proofs.Common.{◌≡◌, ◌≢◌, ◌⊎◌, ℕ, zero, suc, ◌+◌, ◌*◌, ◌^◌, ◌<◌, ◌≤◌, true, false, List, [], ◌∷◌, length, map, get_or, refl, sym, ap, ap₂, ◌∙◌, subst, inl, inr, ⊎_elim, arith}
+use Rattle.std.proofs.Common.{◌≡◌, ◌≢◌, ℕ, zero, suc, ◌+◌, ◌*◌, ◌^◌, ◌<◌, true, false, List, [], ◌∷◌, length, map, refl, sym, ap, ap₂, ◌∙◌, subst, inl, inr, ⊎_elim, arith}
 use Rattle.std.proofs.lemmas.Bool.{cases_order}
 use Rattle.std.proofs.lemmas.List.{length-map}
-use Rattle.std.specs.List.{All}
 use mathlib.Core.Option.{some, some-injective, some-ne-none}
 use lib.ListN.{get_elem?}
 use Rattle.pc_model.specs.Cells.{IsNode}
@@ -11,9 +10,9 @@ use Rattle.pc_model.specs.Exchanges.{Changed}
 use Rattle.pc_words.specs.declared.status.Stage.TheVariants.{Undecided}
 use Rattle.pc_words.specs.Statuses.{packed}
 use Rattle.pc_rule_law.specs.Board.{place_number, descriptor_words}
-use Rattle.pc_rule_law.specs.Conditions.{IsFree, CanWrite, CanPublish, KnowsWord, KnowsChange}
+use Rattle.pc_rule_law.specs.Conditions.{IsFree, CanWrite, KnowsWord, KnowsChange}
 use Rattle.pc_rule_law.specs.Openings.{attempt_of}
-use Rattle.pc_rule_law.specs.Past.{Has, Attempt, Describes, IsFormed}
+use Rattle.pc_rule_law.specs.Past.{Has, Describes, IsFormed}
 use Rattle.pc_rule_law.specs.Plays.{after_publish}
 use Rattle.pc_rule_law.specs.Views.{Note, View, clock_at, removed, word_in, with_notes}
 use Rattle.pc_rule_law.proofs.Lists.{below_length, has_later}
@@ -25,7 +24,7 @@ use Rattle.pc_rule.specs.Starting.{change_of}
 use Rattle.pc_rule.proofs.Calls.{read_at}
 use Rattle.pc_rule.proofs.Sharing.{from_map}
 use Rattle.pc_dcss.specs.Installs.{KnowsPlace}
-use Rattle.pc_kcas.specs.Exchanges.{ListsTo, OnlyWrote, OnlyPublished, HasPublished}
+use Rattle.pc_kcas.specs.Exchanges.{ListsTo, OnlyPublished, HasPublished}
 
 listed_as : (places : List Place) (i : ℕ) (p : Place) → get_elem? places i ≡ some p → get_elem? (map change_of places) i ≡ some (change_of p)
 listed_as [] i p at = absurd (some-ne-none p (sym at))
@@ -136,6 +135,6 @@ pub free_published : (v w : View) → OnlyPublished v w → IsFree v → IsFree 
 free_published v w told free = ⊎_elim
     (λ (fresh : v.fresh ≡ true). inl (ap (λ (x : View). x.fresh) told.same ∙ fresh))
     (λ has. inr (subst (λ (n : ℕ). Has w.notes (removed w.seat n)) (sym (ap (λ (x : View). x.install.number) told.same))
-        (subst (λ (s : ℕ). Has w.notes (removed s v.install.number)) (sym (ap (λ (x : View). x.seat) told.same))
-        (subst (λ (l : List Note). Has l (removed v.seat v.install.number)) (sym told.clock.1) (has_later (clock_at told.clock.0) v.notes (removed v.seat v.install.number) has)))))
+    (subst (λ (s : ℕ). Has w.notes (removed s v.install.number)) (sym (ap (λ (x : View). x.seat) told.same))
+    (subst (λ (l : List Note). Has l (removed v.seat v.install.number)) (sym told.clock.1) (has_later (clock_at told.clock.0) v.notes (removed v.seat v.install.number) has)))))
     free

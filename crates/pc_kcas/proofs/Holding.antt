@@ -1,5 +1,6 @@
 -- What holds of a published exchange, and of its words that held, after more installs.
-use Rattle.std.proofs.Common.{◌≡◌, ℕ, ◌<◌, ◌^◌, true, false, List, [], length, map, get_or, refl, sym, ap, ap₂, ◌∙◌, subst}
+use Rattle.std.proofs.Common.{◌≡◌, ◌⊎◌, ℕ, ◌+◌, ◌<◌, ◌≤◌, ◌^◌, List, [], map, get_or, refl, sym, ap, ap₂, ◌∙◌, subst, inl, inr, ⊎_elim, arith}
+use Rattle.std.proofs.lemmas.Bool.{cases_order}
 use mathlib.Core.Option.{some}
 use lib.ListN.{get_elem?}
 use Rattle.pc_model.specs.declared.shape.Shape.{Ghosts}
@@ -16,8 +17,8 @@ use Rattle.pc_rule.specs.Passes.{view, listed, IsSamePass}
 use Rattle.pc_rule.proofs.Calls.{read_at}
 use Rattle.pc_rule.specs.Starting.{change_of}
 use Rattle.pc_dcss.specs.declared.installed.Installed.{Installed}
-use Rattle.pc_dcss.specs.declared.installed.Installed.TheVariants.{Held}
-use Rattle.pc_dcss.specs.Installs.{KnowsPlace, KeepsNotes, KeepsAttempt, OnHeld}
+use Rattle.pc_dcss.specs.declared.installed.Installed.TheVariants.{Held, Decided, Differs, Met, Numbers as OutOfNumbers}
+use Rattle.pc_dcss.specs.Installs.{KnowsPlace, KeepsNotes, KeepsAttempt, HasNoNumber, IsOutOfNumbers, last_install, OnHeld, IfNumbers}
 use Rattle.pc_dcss.proofs.Puts.{place_still}
 use Rattle.pc_dcss.proofs.Staying.{adds_then, noted_before, noted_after}
 use Rattle.pc_kcas.specs.Exchanges.{HasPublished, IsPublished, IsHeldAt, IsStopped, IsStoppedAt, own_exchange}
@@ -31,6 +32,25 @@ published_still v w old new keeps sized same has = record {
       (subst (λ (z : Size). Describes z.slots (attempt_of (map change_of old)) (word_in w.attempt.words)) (sym sized)
       (subst (λ (a : OwnAttempt). Describes v.size.slots (attempt_of (map change_of old)) (word_in a.words)) (sym keeps.0) has.describes));
 }
+
+below_or : (m n : ℕ) → (m < n) ⊎ (n ≤ m)
+below_or m n = ⊎_elim (λ e. inr (omega arith)) (λ ne. ⊎_elim (λ lt. inl lt) (λ (gt : n < m). inr (omega arith)) ne) (cases_order m n)
+
+-- an install takes one number, or none where there is none
+none_taken : (v w : View) (i : Installed) → IsOutOfNumbers i → IfNumbers i (HasNoNumber v w) → w ≡ v
+none_taken v w Held out told = absurd out
+none_taken v w Decided out told = absurd out
+none_taken v w (Differs x) out told = absurd out
+none_taken v w (Met r) out told = absurd out
+none_taken v w (OutOfNumbers n) out told = told.3
+
+pub at_most_one : (v w : View) (i : Installed) → (v.install.number < last_install → w.install.number ≡ v.install.number + 1)
+    → (last_install ≤ v.install.number → IsOutOfNumbers i) → IfNumbers i (HasNoNumber v w) → w.install.number ≤ v.install.number + 1
+unfolding none_taken
+at_most_one v w i more out told = ⊎_elim
+    (λ lt. let e = more lt in omega arith)
+    (λ le. let e : w.install.number ≡ v.install.number = ap (λ (x : View). x.install.number) (none_taken v w i (out le) told) in omega arith)
+    (below_or v.install.number last_install)
 
 module _ {H : Type 0} {S : Ghosts H} where
   pub pass_published : (p q : Pass H S) → IsSamePass p q → KeepsAttempt (view p) (view q) → IsPublished p → IsPublished q
@@ -83,6 +103,6 @@ module _ {H : Type 0} {S : Ghosts H} where
       → KnowsPlace (view p) (own_exchange p) place → KnowsPlace (view q) (own_exchange q) place
   knows_still p q same keeps notes place known =
       let op : own_exchange p ≡ own_exchange q =
-          ap₂ (λ (a b : ℕ). record { kind = Exchange; seat = a; number = b }) (sym same.0.2) (sym (ap (λ (a : OwnAttempt). a.number) keeps.0)) in
+      ap₂ (λ (a b : ℕ). record { kind = Exchange; seat = a; number = b }) (sym same.0.2) (sym (ap (λ (a : OwnAttempt). a.number) keeps.0)) in
       subst (λ (r : Ref). KnowsPlace (view q) r place) op
       (place_still (view p) (view q) record { notes = notes; seat = same.0.2; size = same.0.1; attempt = keeps.0; posted = keeps.1 } (own_exchange p) place known)

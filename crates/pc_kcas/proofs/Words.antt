@@ -5,7 +5,6 @@ use mathlib.Core.Option.{some, some-injective}
 use lib.ListN.{get_elem?}
 use native.Mathlib.Decide.{ℕ_discrete}
 use Rattle.std.proofs.lemmas.Bool.Decides.{nat_tests}
-use Rattle.pc_rule_law.specs.Plays.{after_write}
 use Rattle.pc_rule_law.specs.Views.{View, word_in}
 use Rattle.pc_rule.specs.declared.opening.Place.{Place}
 use Rattle.pc_rule.specs.Listed.{word_number}

@@ -1,5 +1,5 @@
 //! The installs of an exchange by its owner, in the order of its words.
-ghost use Rattle.std.specs.Prelude.{◌≡◌, ◌<◌, ◌≤◌, ℕ, true, false, length};
+ghost use Rattle.std.specs.Prelude.{◌≡◌, ◌+◌, ◌<◌, ◌≤◌, ℕ, true, false, length};
 ghost use Rattle.pc_rule_law.specs.Conditions.{IsFree};
 ghost use Rattle.pc_rule_law.specs.Plays.{AddsNotes};
 ghost use Rattle.pc_rule.specs.Passes.{view, listed, IsPassOf, IsSamePass};
@@ -35,6 +35,7 @@ fn install_at<H: Shape>(board: &Board<H>, pass: &mut Pass<H>, i: u32) -> bool
     ensures free { IsFree (view pass.new) }
     ensures adds { AddsNotes (view pass.old) (view pass.new) }
     ensures attempt { KeepsAttempt (view pass.old) (view pass.new) }
+    ensures most { (view pass.new).install.number ≤ (view pass.old).install.number + 1 }
     ensures held { result ≡ true → IsHeldAt pass.old pass.new i }
     ensures stopped { result ≡ false → IsStoppedAt pass.old pass.new i }
 {
@@ -59,6 +60,7 @@ pub fn install_first<H: Shape>(board: &Board<H>, pass: &mut Pass<H>, count: u32)
     ensures published { IsPublished pass.new }
     ensures adds { AddsNotes (view pass.old) (view pass.new) }
     ensures attempt { KeepsAttempt (view pass.old) (view pass.new) }
+    ensures most { (view pass.new).install.number ≤ (view pass.old).install.number + count }
     ensures few { (result ≤ count) × (result ≤ length (listed pass.old)) }
     ensures held { (i : ℕ) → i < result → IsHeldAt pass.old pass.new i }
     ensures stopped { result < count → result < length (listed pass.old) → IsStoppedAt pass.old pass.new result }

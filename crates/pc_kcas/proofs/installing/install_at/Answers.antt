@@ -1,11 +1,10 @@
 -- The word is known to be one of the exchange, and what the install says of it is said of the pass's word.
-use Rattle.std.proofs.Common.{rules, ◌≡◌, ◌<◌, List, sym, subst}
-use Rattle.pc_rule.specs.declared.opening.Place.{Place}
+use Rattle.std.proofs.Common.{◌<◌, sym, subst}
 use Rattle.pc_rule.specs.declared.refs.RefKind.TheVariants.{Exchange}
 use Rattle.pc_rule.specs.Passes.{view, listed}
 use Rattle.pc_rule.proofs.Starting.{element}
 use Rattle.pc_kcas.proofs.Attempts.{knows_place}
-use Rattle.pc_kcas.proofs.Holding.{held_at, stopped_at}
+use Rattle.pc_kcas.proofs.Holding.{held_at, stopped_at, at_most_one}
 use Rattle.pc_kcas.proofs.installing.install_at.Goals as goal
 
 pub install-answer-requires-clause-place : goal.install-answer-requires-clause-place
@@ -27,3 +26,6 @@ returns-clause-stopped g c = λ fails. let e = c.install-answer.ensures in stopp
       met = e.met;
       numbers = e.numbers;
     }
+
+pub returns-clause-most : goal.returns-clause-most
+returns-clause-most g c = let e = c.install-answer.ensures in at_most_one (view c.args.pass.now) (view c.install-answer.new.pass) c.install-answer.result e.number e.last e.numbers

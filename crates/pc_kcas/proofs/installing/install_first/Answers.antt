@@ -1,9 +1,7 @@
 -- One word more held, or the installs stop.
-use Rattle.std.proofs.Common.{rules, ℕ, ◌≡◌, ◌+◌, ◌<◌, ap, ◌∙◌, subst, sym, ⊎_elim, arith}
+use Rattle.std.proofs.Common.{rules, ◌≡◌, ◌∙◌, subst, sym, arith}
 use mathlib.Core.Logic.{dite}
 use native.Mathlib.Decide.{ℕ_discrete}
-use Rattle.pc_rule.specs.Passes.{view, listed}
-use Rattle.pc_dcss.specs.Installs.{KeepsAttempt}
 use Rattle.pc_kcas.specs.Exchanges.{IsHeldAt}
 use Rattle.pc_kcas.proofs.Holding.{pass_published, held_still, held_since, stopped_since, adds_more}
 use Rattle.pc_kcas.proofs.installing.install_first.Goals as goal
@@ -25,6 +23,7 @@ loop-held-preserved g c = let inv = c.loop-held.invariant in let e = c.install_a
   published = pass_published p q e.pass e.attempt inv.published;
   adds = adds_more o p q inv.adds e.adds;
   attempt = (e.attempt.0 ∙ inv.attempt.0, e.attempt.1 ∙ inv.attempt.1);
+  most = (let a = inv.most in let b = e.most in omega arith);
   held = λ i lt. dite (ℕ_discrete i c.loop-held.held)
       (λ (here : i ≡ c.loop-held.held). subst (IsHeldAt o q) (sym here) (held_since o p q c.loop-held.held inv.adds (e.held (search rules))))
       (λ other. held_still o p q i e.pass e.attempt e.adds (inv.held i (omega arith)));

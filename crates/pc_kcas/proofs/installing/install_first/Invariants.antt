@@ -1,5 +1,5 @@
 -- The words below `held` held the reference.
-use Rattle.std.proofs.Common.{ℕ, ◌<◌, ◌≤◌, ◌-◌, length}
+use Rattle.std.proofs.Common.{ℕ, ◌+◌, ◌<◌, ◌≤◌, ◌-◌, length}
 use Rattle.pc_rule_law.specs.Conditions.{IsFree}
 use Rattle.pc_rule_law.specs.Plays.{AddsNotes}
 use Rattle.pc_rule.specs.Passes.{view, listed, IsSamePass}
@@ -15,6 +15,7 @@ invariant-loop-held g l = record {
   published : IsPublished l.pass;
   adds : AddsNotes (view l.initial.pass) (view l.pass);
   attempt : KeepsAttempt (view l.initial.pass) (view l.pass);
+  most : (view l.pass).install.number ≤ (view l.initial.pass).install.number + l.held;
   held : (i : ℕ) → i < l.held → IsHeldAt l.initial.pass l.pass i;
 }
 

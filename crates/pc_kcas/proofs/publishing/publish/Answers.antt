@@ -1,9 +1,8 @@
 -- What was stored is what is published.
-use Rattle.std.proofs.Common.{rules, ◌≡◌, ◌<◌, ap, ◌∙◌, subst, refl, sym}
+use Rattle.std.proofs.Common.{rules, ◌<◌, ap, ◌∙◌, subst, refl, sym}
 use Rattle.std.specs.List.Sorted.{IsNonDecreasingBy}
-use Rattle.pc_rule_law.specs.Views.{View}
 use Rattle.pc_rule.specs.Listed.{word_number}
-use Rattle.pc_rule.specs.Passes.{view, board_size, listed}
+use Rattle.pc_rule.specs.Passes.{view, listed}
 use Rattle.pc_rule.proofs.Calls.{only_listed, pass_stays}
 use Rattle.pc_rule.proofs.Starting.{element}
 use Rattle.pc_kcas.specs.Exchanges.{HasPublished, own_exchange}

@@ -1,5 +1,5 @@
 -- One change more is stored.
-use Rattle.std.proofs.Common.{rules, ap, arith}
+use Rattle.std.proofs.Common.{rules, ap}
 use Rattle.pc_rule.specs.Passes.{view, listed}
 use Rattle.pc_kcas.proofs.Words.{lists_written, only_next}
 use Rattle.pc_kcas.proofs.writing.write_listed.Goals as goal
