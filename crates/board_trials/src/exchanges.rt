@@ -154,13 +154,15 @@ fn a_published_exchange_is_met(rt: HostRuntime) -> Result<(), Memory> {
     let share = Share { slots: 1, calls: 0 };
     let (board, mut passes) = open_board(rt.alloc(), Loose, &[share, share], usual_starts())?;
     let answers = second_meets_by(&board, passes.as_mut_slice());
-    close_board(board, passes);
+    let closed = close_board(board, passes);
+    let left = (closed.cell(1, Field::Version), closed.cell(1, Field::Value));
     let met = Ref {
         kind: RefKind::Exchange,
         seat: 0,
         number: 1,
     };
-    assert_eq!(rt; answers, Some((2, Installed::Met(met), 0)));
+    let wanted = (2, Installed::Met(met), 0);
+    assert_eq!(rt; (answers, left), (Some(wanted), (0, 0)));
     Ok(())
 }
 
@@ -214,7 +216,8 @@ fn a_half_install_of_a_published_exchange_is_met(rt: HostRuntime) -> Result<(), 
     let share = Share { slots: 1, calls: 0 };
     let (board, mut passes) = open_board(rt.alloc(), Loose, &[share, share], usual_starts())?;
     let answers = half_met_by(&board, passes.as_mut_slice());
-    close_board(board, passes);
+    let closed = close_board(board, passes);
+    let left = (closed.cell(1, Field::Version), closed.cell(1, Field::Value));
     let own = Ref {
         kind: RefKind::Install,
         seat: 0,
@@ -226,7 +229,7 @@ fn a_half_install_of_a_published_exchange_is_met(rt: HostRuntime) -> Result<(), 
         number: 1,
     };
     let wanted = (own, Installed::Met(own), Installed::Met(exchange));
-    assert_eq!(rt; answers, Some(wanted));
+    assert_eq!(rt; (answers, left), (Some(wanted), (0, 0)));
     Ok(())
 }
 
@@ -262,11 +265,12 @@ fn the_last_number_of_an_attempt_is_told(rt: HostRuntime) -> Result<(), Memory> 
     starts.attempt = 268_435_455;
     let (board, mut passes) = open_board(rt.alloc(), Loose, &[share], starts)?;
     let answer = tried_by(&board, &mut passes);
-    close_board(board, passes);
+    let closed = close_board(board, passes);
     let last = Numbers {
         counter: Counter::Attempt,
         at: 268_435_455,
     };
-    assert_eq!(rt; answer, (Err(last), false, 0));
+    let value = closed.cell(1, Field::Value);
+    assert_eq!(rt; (answer, value), ((Err(last), false, 0), 0));
     Ok(())
 }

@@ -1,5 +1,4 @@
 -- The exchange is the same after the install and the completing.
-use Rattle.std.proofs.Common.{◌∙◌}
 use Rattle.pc_rule.specs.Passes.{view}
 use Rattle.pc_kcas.proofs.Holding.{knows_still}
 use Rattle.board_trials.proofs.Published.{met_known}

@@ -1,7 +1,6 @@
 -- The words are listed one after the other, and then published.
-use Rattle.std.proofs.Common.{◌≡◌, ◌∙◌, [], ◌∷◌, ◌++◌, ap, subst, sym}
+use Rattle.std.proofs.Common.{◌∙◌, [], ◌∷◌, ◌++◌, ap, subst, sym}
 use Rattle.pc_rule_law.specs.Conditions.{IsFree}
-use Rattle.pc_rule.specs.declared.opening.Place.{Place}
 use Rattle.pc_rule.specs.Passes.{view, listed}
 use Rattle.pc_dcss.specs.Installs.{KnowsPlace}
 use Rattle.pc_kcas.specs.Exchanges.{own_exchange}

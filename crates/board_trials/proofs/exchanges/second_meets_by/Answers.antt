@@ -1,5 +1,5 @@
 -- The first two passes make the calls, and the others none.
-use Rattle.std.proofs.Common.{set, subst, ap, ◌∙◌}
+use Rattle.std.proofs.Common.{set, subst}
 use Rattle.pc_rule.proofs.Calls.{all_but_one}
 use Rattle.pc_rule.specs.Shares.{AreAll}
 use Rattle.board_trials.proofs.FirstTwo.{first_at, second_at, second_after, both_set}

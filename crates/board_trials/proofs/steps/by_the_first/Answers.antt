@@ -20,5 +20,5 @@ stored_and_loaded-requires-clause-free c = let p = c.index_mut.result.now in let
 pub returns : goal.returns
 returns c = let p = c.index_mut.result.now in let ok = c.args.passes.now.ok.0 in let lt = c.requires.some in record {
   all = all_but_one c.args.passes.now.items 0 p c.stored_and_loaded.new.pass (pass_at c.args.passes.now.items 0 p (omega arith) c.index_mut.ensures.value)
-      c.args.board.now c.requires.all c.stored_and_loaded.ensures.same c.stored_and_loaded.ensures.free;
+      c.args.board.now c.requires.all c.stored_and_loaded.ensures.same.0 c.stored_and_loaded.ensures.free;
 }

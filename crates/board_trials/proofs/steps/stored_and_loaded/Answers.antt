@@ -1,9 +1,8 @@
 -- What the steps of an exchange tell leaves the own install as it was.
 use Rattle.std.proofs.Common.{[], ◌∷◌, sym, subst, inl, inr, ⊎_elim}
 use Rattle.pc_rule_law.specs.Conditions.{IsFree}
-use Rattle.pc_rule_law.specs.Past.{Has}
 use Rattle.pc_rule_law.specs.Plays.{IsLater}
-use Rattle.pc_rule_law.specs.Views.{removed, OwnInstall, View, clock_at, with_notes}
+use Rattle.pc_rule_law.specs.Views.{removed, View, clock_at, with_notes}
 use Rattle.pc_rule_law.proofs.Lists.{has_right}
 use Rattle.pc_rule.specs.Passes.{view}
 use Rattle.board_trials.proofs.steps.stored_and_loaded.Goals as goal
