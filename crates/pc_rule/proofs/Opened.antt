@@ -7,7 +7,7 @@ use lib.ListN.{get_elem?}
 use Rattle.pc_model.specs.declared.shape.Shape.{Ghosts}
 use Rattle.pc_rule_law.specs.declared.opening.Opening.{Opening}
 use Rattle.pc_rule_law.specs.Board.{Size}
-use Rattle.pc_rule_law.specs.Rule.{opening_own}
+use Rattle.pc_rule_law.specs.Rule.{opening_install, opening_own}
 use Rattle.pc_rule_law.specs.Seats.{maker}
 use Rattle.pc_rule_law.specs.Tables.{size_of, note_of}
 use Rattle.pc_rule_law.specs.Views.{Note, View}
@@ -18,7 +18,7 @@ use Rattle.pc_rule.specs.declared.share.Share.{Share}
 use Rattle.pc_rule.specs.Passes.{view, board_size, recorded, listed, IsPassOf}
 use Rattle.pc_rule.specs.Opened.{last_view, AreOpened}
 use Rattle.pc_rule.specs.Recorded.{HaveShares}
-use Rattle.pc_rule.specs.Shares.{AreAll, AllNoted, NoneTried}
+use Rattle.pc_rule.specs.Shares.{AreAll, AllNoted, NoneInstalled, NoneTried}
 
 module _ {H : Type 0} {S : Ghosts H} (b : Board H) (o : Opening) where
   -- what a pass shows that has just been made
@@ -29,14 +29,15 @@ module _ {H : Type 0} {S : Ghosts H} (b : Board H) (o : Opening) where
     notes : (view p).notes ≡ map note_of o.given.items
     posted : (view p).posted ≡ o.posted
     attempt : (view p).attempt ≡ opening_own (size_of o)
+    install : (view p).install ≡ opening_install (size_of o)
     none : recorded p ≡ []
     unlisted : listed p ≡ []
 
   module _ (passes : List (Pass H S)) (opened : AreOpened b o passes) where
     each_new : (i : ℕ) (p : Pass H S) → get_elem? passes i ≡ some p → IsNew i p
     each_new i p at = let q = opened.1 i p at in let lt : i < length passes = below_length passes i p at in let n : length passes ≡ o.seats = opened.0 in dite (ℕ_discrete (i + 1) o.seats)
-        (λ e. let l = q.1 e in let is : view p ≡ last_view o i = l.1 in record { of = l.0; seat = ap (λ (v : View). v.seat) is; fresh = ap (λ (v : View). v.fresh) is; notes = ap (λ (v : View). v.notes) is; posted = ap (λ (v : View). v.posted) is; attempt = ap (λ (v : View). v.attempt) is; none = l.2; unlisted = l.4 })
-        (λ ne. let m = q.0 (omega arith) in let is : view p ≡ maker (last_view o i) = m.1 in record { of = m.0; seat = ap (λ (v : View). v.seat) is; fresh = ap (λ (v : View). v.fresh) is; notes = ap (λ (v : View). v.notes) is; posted = ap (λ (v : View). v.posted) is; attempt = ap (λ (v : View). v.attempt) is; none = m.2; unlisted = m.3 })
+        (λ e. let l = q.1 e in let is : view p ≡ last_view o i = l.1 in record { of = l.0; seat = ap (λ (v : View). v.seat) is; fresh = ap (λ (v : View). v.fresh) is; notes = ap (λ (v : View). v.notes) is; posted = ap (λ (v : View). v.posted) is; attempt = ap (λ (v : View). v.attempt) is; install = ap (λ (v : View). v.install) is; none = l.2; unlisted = l.4 })
+        (λ ne. let m = q.0 (omega arith) in let is : view p ≡ maker (last_view o i) = m.1 in record { of = m.0; seat = ap (λ (v : View). v.seat) is; fresh = ap (λ (v : View). v.fresh) is; notes = ap (λ (v : View). v.notes) is; posted = ap (λ (v : View). v.posted) is; attempt = ap (λ (v : View). v.attempt) is; install = ap (λ (v : View). v.install) is; none = m.2; unlisted = m.3 })
 
     pub all_opened : 0 < o.seats → board_size b ≡ size_of o → length b.shares.items ≡ o.seats → AreAll b passes
     all_opened one sized shares = let seats : (board_size b).seats ≡ o.seats = ap (λ (z : Size). z.seats) sized in record {
@@ -59,3 +60,7 @@ module _ {H : Type 0} {S : Ghosts H} (b : Board H) (o : Opening) where
     pub none_tried : o.posted ≡ false → board_size b ≡ size_of o → NoneTried passes
     none_tried off sized i p at = let is = each_new i p at in
         (is.posted ∙ off, is.attempt ∙ ap opening_own (sym (is.of.1 ∙ sized)), is.unlisted)
+
+    pub none_installed : board_size b ≡ size_of o → NoneInstalled passes
+    none_installed sized i p at = let is = each_new i p at in
+        (is.fresh, is.install ∙ ap opening_install (sym (is.of.1 ∙ sized)))

@@ -6,7 +6,7 @@ use Rattle.pc_model.specs.declared.shape.Shape.{Ghosts}
 use Rattle.pc_model.specs.Cells.{IsEven}
 use Rattle.pc_rule_law.specs.declared.opening.Starts.{Starts}
 use Rattle.pc_rule_law.specs.Board.{Size}
-use Rattle.pc_rule_law.specs.Rule.{opening_own}
+use Rattle.pc_rule_law.specs.Rule.{opening_install, opening_own}
 use Rattle.pc_rule_law.specs.Views.{Note}
 use Rattle.pc_rule.specs.declared.board.Board.{Board}
 use Rattle.pc_rule.specs.declared.board.Pass.{Pass}
@@ -64,3 +64,7 @@ module _ {H : Type 0} {S : Ghosts H} where
   -- and lists no word
   abbrev pub NoneTried : List (Pass H S) → Type 0
   NoneTried passes = (i : ℕ) (p : Pass H S) → get_elem? passes i ≡ some p → ((view p).posted ≡ false) × ((view p).attempt ≡ opening_own (view p).size) × (listed p ≡ [])
+
+  -- no pass has made an install: its number is the one that the board starts at, and no word of its descriptor was stored
+  abbrev pub NoneInstalled : List (Pass H S) → Type 0
+  NoneInstalled passes = (i : ℕ) (p : Pass H S) → get_elem? passes i ≡ some p → ((view p).fresh ≡ true) × ((view p).install ≡ opening_install (view p).size)

@@ -4,7 +4,7 @@ ghost use Rattle.pc_model.specs.Forms.{IsSound};
 ghost use Rattle.pc_model.specs.Linked.{opening_cells};
 ghost use Rattle.pc_rule_law.specs.Openings.{opening_notes};
 ghost use Rattle.pc_rule.specs.Passes.{board_size};
-ghost use Rattle.pc_rule.specs.Shares.{slots_of, size_for, AreStarts, AreForSentinel, AreAll, AllNoted, NoneTried};
+ghost use Rattle.pc_rule.specs.Shares.{slots_of, size_for, AreStarts, AreForSentinel, AreAll, AllNoted, NoneInstalled, NoneTried};
 ghost use Rattle.pc_rule.specs.Recorded.{HaveShares};
 ghost use Rattle.pc_rule.specs.Starting.{all_posted};
 
@@ -58,6 +58,7 @@ fn opened<H: Shape>(
     ensures passes { IfOk result (λ r. AreAll r.0 r.1.items) }
     ensures notes { IfOk result (λ r. AllNoted r.1.items (opening_notes 0 (all_posted posted.now))) }
     ensures shares { IfOk result (λ r. HaveShares shares.now r.1.items) }
+    ensures installed { IfOk result (λ r. NoneInstalled r.1.items) }
     ensures tried { IfOk result (λ r. posted.now ≡ [] → NoneTried r.1.items) }
 {
     let Ok(given) = given_start(alloc, posted) else {
@@ -95,6 +96,7 @@ pub fn open_board<H: Shape>(
     ensures passes { IfOk result (λ r. AreAll r.0 r.1.items) }
     ensures notes { IfOk result (λ r. AllNoted r.1.items []) }
     ensures shares { IfOk result (λ r. HaveShares shares.now r.1.items) }
+    ensures installed { IfOk result (λ r. NoneInstalled r.1.items) }
     ensures tried { IfOk result (λ r. NoneTried r.1.items) }
 {
     opened(alloc, shares, starts, &[])
@@ -118,6 +120,7 @@ pub fn open_posted<H: Shape>(
     ensures passes { IfOk result (λ r. AreAll r.0 r.1.items) }
     ensures notes { IfOk result (λ r. AllNoted r.1.items (opening_notes 0 (all_posted posted.now))) }
     ensures shares { IfOk result (λ r. HaveShares shares.now r.1.items) }
+    ensures installed { IfOk result (λ r. NoneInstalled r.1.items) }
 {
     opened(alloc, shares, starts, posted)
 }

@@ -1,6 +1,6 @@
 use Rattle.std.proofs.Common.{◌≡◌, not, length, refl, ap, arith}
 use Rattle.pc_rule.specs.Starting.{posted_of, all_posted}
-use Rattle.pc_rule.proofs.Opened.{all_opened, all_noted, all_shared, none_tried}
+use Rattle.pc_rule.proofs.Opened.{all_opened, all_noted, all_shared, none_installed, none_tried}
 use Rattle.pc_rule.proofs.Sharing.{length_map, all_formed, small_cells, none_given, given_none}
 use Rattle.pc_rule.proofs.boards.opened.Goals as goal
 
@@ -26,3 +26,6 @@ returns-clause-shares g c = let e = c.in-Ok-open.ensures in all_shared c.in-Ok-o
 
 pub returns-clause-tried : goal.returns-clause-tried
 returns-clause-tried g c = λ is. let e = c.in-Ok-open.ensures in none_tried c.in-Ok-open.made.0 (record { seats = length c.args.shares.now; slots = c.all_slots.result; starts = c.args.starts; given = c.in-Ok.given; posted = not c.is_empty.result }) c.in-Ok-open.made.1.items e.2 (given_none c.args.posted.now c.is_empty.result c.is_empty.ensures is) e.0
+
+pub returns-clause-installed : goal.returns-clause-installed
+returns-clause-installed g c = let e = c.in-Ok-open.ensures in none_installed c.in-Ok-open.made.0 (record { seats = length c.args.shares.now; slots = c.all_slots.result; starts = c.args.starts; given = c.in-Ok.given; posted = not c.is_empty.result }) c.in-Ok-open.made.1.items e.2 e.0
