@@ -9,7 +9,7 @@ use Rattle.pc_rule.specs.declared.board.Pass.{Pass}
 use Rattle.pc_rule.specs.declared.share.Share.{Share}
 use Rattle.pc_rule.specs.Passes.{share_of, recorded}
 
--- how many calls are recorded for these shares
+-- for how many calls these shares have room
 abbrev pub calls_of : List Share → ℕ
 calls_of [] = 0
 calls_of (share ∷ shares) = share.calls + calls_of shares

@@ -11,7 +11,7 @@ use crate::share::Share;
 use pc_model::{Entry, Shape};
 use std::alloc::{AllocError, Global};
 
-/// How many calls are recorded for these shares.
+/// For how many calls these shares have room.
 fn all_calls(shares: &[Share]) -> usize
     requires { length shares.now ≤ 32 }
     ensures { result ≡ calls_of shares.now }
@@ -55,7 +55,7 @@ pub(crate) fn room_for(
 }
 
 impl<H: Shape> Pass<H> {
-    /// The calls that it recorded, by rising stamps.
+    /// The calls that it recorded: none, until calls are recorded.
     pub fn entries(&self) -> &[Entry]
         ensures { result.now ≡ recorded self.now }
     {

@@ -5,6 +5,6 @@
 pub struct Share {
     /// The slots that are its own at the opening.
     pub slots: u32,
-    /// How many of its calls are recorded.
+    /// For how many of its calls there is room among the recorded ones.
     pub calls: u32,
 }
