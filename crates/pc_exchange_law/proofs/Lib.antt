@@ -23,6 +23,7 @@ pub mod TieSuccesses
 pub mod TieTelling
 pub mod TieWords
 pub mod Ties
+pub mod ViewNotes
 pub mod WordsSeen
 mod WorkedAttempts
 mod WorkedExchange

@@ -43,8 +43,8 @@ pub record StatusSeen (k : PassKnows) (p : ℕ) (s : Status) (k' : PassKnows) : 
 
 -- A word of a node. A reference is held, and its pass has come to that attempt. A plain version is a bound; and
 -- another plain number is what the word has, at each version of the node that was visited. The word is calm of each
--- attempt that is known to be decided, but for an install that is found. The moments are those of the step, and
--- nobody computes them.
+-- attempt that is known to be decided, but for an install that is found. Nobody computes the moments, and all that is
+-- said of them is that the notes are true.
 pub record WordSeen (k : PassKnows) (n : ℕ) (f : Field) (c : WordKind) (k' : PassKnows) : Type 0 where
   pub learns : Learns k k'
   pub came : (p a : ℕ) → c ≡ Exchange p a → Has k'.noted (came_to p a)

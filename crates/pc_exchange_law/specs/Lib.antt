@@ -9,4 +9,5 @@ pub mod Knowing
 pub mod Passes
 pub mod TieLaws
 pub mod Ties
+pub mod ViewNotes
 pub mod Worlds

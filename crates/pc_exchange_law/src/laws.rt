@@ -22,6 +22,7 @@ ghost use Rattle.pc_exchange_law.specs.ExchangeLaws.{ExchangeStepsGoOn};
 ghost use Rattle.pc_exchange_law.specs.Knowing.{LoadsTellPasses};
 ghost use Rattle.pc_exchange_law.specs.Passes.{IsKnown, PassKnows};
 ghost use Rattle.pc_exchange_law.specs.Ties.{IsTied};
+ghost use Rattle.pc_exchange_law.specs.ViewNotes.{ViewNotesStay};
 ghost use Rattle.pc_exchange_law.specs.Worlds.{World};
 ghost use Rattle.pc_exchange_law.specs.TieLaws.{
   BoardTells,
@@ -125,6 +126,16 @@ pub fn exchange_steps_go_on<H: Shape>()
         → Own z b.install t.course id v
         → AllNotes (NoteHolds z b t) v.notes → IsKnown b t w h late id k
         → ExchangeStepsGoOn H.form z id b t w h late v k }
+{}
+
+/// What any pass noted in its view for installs stays true at each step of an exchange, from what the pass that makes it
+/// knows.
+pub fn view_notes_stay<H: Shape>()
+    ensures { (z : Size) (id : ℕ) (b : Board) (t : Past) (w : Scripts) (h : History) (late : ℕ → Bool) (v : View)
+        (k : PassKnows) → z.seats ≤ 32 → Shared (IsSound H.form) z b t → World H.form z b t w h late
+        → Own z b.install t.course id v
+        → AllNotes (NoteHolds z b t) v.notes → IsKnown b t w h late id k
+        → ViewNotesStay H.form z id b t h v k }
 {}
 
 /// Where each pass draws once for a load that found the clock below the last stamp, the clock never wraps.

@@ -12,5 +12,5 @@ pub use laws::{
     attempt_notes_stay, attempts_are_known, board_tells, calms_serve, clock_ends,
     codes_are_inverse, descriptors_are_scripts, exchange_steps_go_on, loads_tell_passes,
     openings_are_tied, own_steps_are_known, plain_values_are_sound, run_tells, steps_keep_attempts,
-    steps_stay_tied, successes_serve, words_serve,
+    steps_stay_tied, successes_serve, view_notes_stay, words_serve,
 };
