@@ -4,3 +4,4 @@ pub mod Loads
 pub mod Takes
 pub mod Puts
 pub mod Meeting
+mod WorkedPublication
