@@ -49,7 +49,7 @@ one_of_two undecided old new = inl refl
 one_of_two (committed s) old new = inr refl
 one_of_two (aborted cause) old new = inl refl
 
-true_or_false : (c : Bool) → (c ≡ true) ⊎ (c ≡ false)
+pub true_or_false : (c : Bool) → (c ≡ true) ⊎ (c ≡ false)
 true_or_false true = inl refl
 true_or_false false = inr refl
 

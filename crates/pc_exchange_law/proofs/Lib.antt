@@ -25,6 +25,18 @@ pub mod TieWords
 pub mod Ties
 pub mod ViewNotes
 pub mod WordsSeen
+pub mod WholeCells
+pub mod WholeClosings
+pub mod WholeDecisions
+pub mod WholeDraws
+pub mod WholeKeeping
+pub mod WholeLooks
+pub mod WholeOpenings
+pub mod WholeReferences
+pub mod WholeSeats
+pub mod WholeSteps
+pub mod WholeStores
+pub mod WholeWords
 mod WorkedAttempts
 mod WorkedExchange
 mod WorkedOpening

@@ -12,8 +12,9 @@ use Rattle.pc_protocol.specs.Notes.{Note, IsTrueNote}
 use Rattle.pc_exchange_law.specs.Ties.{last_stamp}
 use Rattle.pc_exchange_law.specs.TieLaws.{opening_history, HasOpened}
 use Rattle.pc_exchange_law.specs.Attempts.{Scripts, AttemptNote, IsTrueAttemptNote}
-use Rattle.pc_exchange_law.specs.AttemptSteps.{first_attempt, no_scripts}
+use Rattle.pc_exchange_law.specs.AttemptSteps.{no_scripts}
 use Rattle.pc_exchange_law.specs.Passes.{PassKnows, IsKnown}
+use Rattle.pc_exchange_law.specs.Wholes.{knows_nothing}
 use Rattle.pc_exchange_law.specs.Worlds.{World}
 use Rattle.pc_exchange_law.proofs.AttemptNotes.{attempt_note_stays, attempt_stays}
 use Rattle.pc_exchange_law.proofs.ClockEnds.{clock_ends}
@@ -40,10 +41,6 @@ module _ (form : Form) (z : Size) (id : ℕ) (b : Board) (t : Past) (w : Scripts
     noted = noted_still k known.noted;
     told = told_still k known.told;
   }
-
--- a pass that knows nothing yet
-abbrev pub knows_nothing : ℕ → PassKnows
-knows_nothing start = record { own = first_attempt start; ready = false; noted = []; told = [] }
 
 -- a pass that is made knows what its maker has noted; its seat is as at the opening until then
 pub made_known : (b : Board) (t : Past) (w : Scripts) (h : History) (late : ℕ → Bool) (i j start : ℕ) (k : PassKnows)

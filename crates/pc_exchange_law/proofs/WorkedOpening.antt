@@ -27,10 +27,11 @@ use Rattle.pc_exchange_law.specs.Attempts.{Scripts, word_in}
 use Rattle.pc_exchange_law.specs.AttemptSteps.{with_own_word, with_script, no_scripts}
 use Rattle.pc_exchange_law.specs.Passes.{PassKnows, IsKnown}
 use Rattle.pc_exchange_law.specs.Knowing.{after_clock, after_own_store, after_publication}
+use Rattle.pc_exchange_law.specs.Wholes.{knows_nothing}
 use Rattle.pc_exchange_law.specs.Worlds.{World}
 use Rattle.pc_exchange_law.specs.ExchangeLaws.{Comes, ExchangeStepsGoOn}
 use Rattle.pc_exchange_law.proofs.ExchangeLaws.{exchange_steps_go_on}
-use Rattle.pc_exchange_law.proofs.Passes.{knows_nothing, world_opens, known_at_opening}
+use Rattle.pc_exchange_law.proofs.Passes.{world_opens, known_at_opening}
 use Rattle.pc_exchange_law.proofs.WordsSeen.{loads_tell_passes}
 
 -- cells of any shape

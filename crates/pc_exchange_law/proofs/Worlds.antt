@@ -6,7 +6,7 @@ use Rattle.pc_model.specs.declared.cell.Field.{Field}
 use Rattle.pc_model.specs.Forms.{Form, IsSound, Fits}
 use Rattle.pc_words.specs.declared.word.WordKind.{WordKind}
 use Rattle.pc_rule_law.specs.Board.{Size, Board, put}
-use Rattle.pc_rule_law.specs.Past.{Attempt, Placing, Past, Describes}
+use Rattle.pc_rule_law.specs.Past.{Attempt, Placing, Past}
 use Rattle.pc_rule_law.specs.Stages.{IsIdle}
 use Rattle.pc_rule_law.specs.Rule.{Shared}
 use Rattle.pc_rule_law.proofs.Updates.{put-else, put2-else}

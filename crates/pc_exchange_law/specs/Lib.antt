@@ -5,9 +5,14 @@ pub mod Changes
 pub mod ClockEnds
 pub mod ExchangeConditions
 pub mod ExchangeLaws
+pub mod FieldCodes
 pub mod Knowing
 pub mod Passes
 pub mod TieLaws
 pub mod Ties
 pub mod ViewNotes
+pub mod WholePlays
+pub mod WholeSeats
+pub mod WholeSteps
+pub mod Wholes
 pub mod Worlds

@@ -3,14 +3,21 @@
 //! definitions and laws alone, the laws each on a function with no code, and nothing that runs.
 //!
 //! Beside it stand what a pass will know of attempts, its own and those of others, and what it has to know before each
-//! step of an exchange. The board's rule does not use this yet, and nothing in it is changed.
+//! step of an exchange; and the whole rule of a board on which passes publish exchanges, which is the rule of installs and
+//! this, with a lemma for each kind of step. No function makes these steps yet.
 #![tactic(auto)]
 
 mod laws;
+mod whole;
 
 pub use laws::{
     attempt_notes_stay, attempts_are_known, board_tells, calms_serve, clock_ends,
     codes_are_inverse, descriptors_are_scripts, exchange_steps_go_on, loads_tell_passes,
     openings_are_tied, own_steps_are_known, plain_values_are_sound, run_tells, steps_keep_attempts,
     steps_stay_tied, successes_serve, view_notes_stay, words_serve,
+};
+pub use whole::{
+    WholeClear, WholeDecide, WholeDraw, WholeJoinPass, WholeLaw, WholeLoadCell, WholeLoadClock,
+    WholeLoadInstall, WholeLoadStatus, WholeLoadWord, WholeMakePass, WholePlace, WholePublish,
+    WholeStoreInstall, WholeStoreWord, WholeTake, WholeTakeReference, WholeView, WholeWithdraw,
 };

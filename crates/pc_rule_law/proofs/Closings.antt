@@ -1,6 +1,6 @@
 -- Where the last pass has taken in all others and is free, no install stands anywhere, and the words that are left
 -- are those of a closed board.
-use Rattle.std.proofs.Common.{◌≡◌, ◌≢◌, ℕ, ◌+◌, ◌<◌, ◌≤◌, Bool, true, List, length, sym, ap, ◌∙◌, subst, arith}
+use Rattle.std.proofs.Common.{◌≡◌, ◌≢◌, ℕ, ◌+◌, ◌<◌, ◌≤◌, Bool, true, List, length, refl, sym, ap, ◌∙◌, subst, arith}
 use mathlib.Core.Option.{some}
 use mathlib.Core.Logic.{dite}
 use native.Mathlib.Decide.{ℕ_discrete, dec_le}
@@ -43,22 +43,33 @@ module _ (sound : ℕ → Cells → Type 0) (z : Size) where
       let few : length (h.attempt p (b.status p).number).changes ≤ 25 + z.slots = (s.formed p (b.status p).number).few in
       (here.0, subst (λ (c : ℕ). c ≤ 25 + z.slots) (sym d.changes) few)
 
+  -- where no install stands any more, the words are those of a closed board, which is this one
+  pub closed_by : (b : Board) (h : Past) (views : List View) (id : ℕ) (v : View) (ws : List ℕ) → Kept sound z b h views
+      → get_elem? views id ≡ some v → v.live ≡ true → v.last ≡ true → v.rest ≡ 0 → IsFree v → Represents z ws b
+      → (c : IsClosed sound z ws) × (c.board ≡ b) × (c.cells ≡ h.cells)
+  closed_by b h views id v ws kept at live last all free represents = let shared = kept.shared in (
+    record {
+      board = b;
+      cells = h.cells;
+      represents = represents;
+      sound_cells = shared.sound_now;
+      no_install = λ n f q k is. let st : Standing h.placing h.course (h.plain n f) n f q k = subst
+          (CellOk z.seats b.status h.attempt h.placing h.course (h.plain n f) n f) is (shared.each_cell n f) in
+          nothing_stands b h views id v kept at live last all free q
+          (install_is_present sound z b h shared n f q k is).0 k st.stands;
+      ranges = shared.ranges;
+      statuses = shared.statuses;
+      referred = refers b h shared;
+      plain = λ n f. subst (IsPlainValue b n f (b.cell n f)) (shared.tied n f) (plain_value sound z b h shared n f);
+      one = λ n f x is. one_plain_value sound z b h shared n f x (h.plain n f) is (plain_value sound z b h shared n f)
+          ∙ shared.tied n f;
+    },
+    refl,
+    refl,
+  )
+
   pub closes : (id : ℕ) (v : View) (ws : List ℕ) (xs : List Bool) → Final (Seen (Holds sound z) id v) ws xs
       → v.live ≡ true → v.last ≡ true → v.rest ≡ 0 → IsFree v → IsClosed sound z ws
   closes id v ws xs final live last all free = let s = final.0 in let held = final.1.0 in let at = final.1.1 in
-      let b = held.board in let h = held.past in let shared = held.kept.shared in record {
-        board = b;
-        cells = h.cells;
-        represents = subst (λ (l : List ℕ). Represents z l b) final.2 held.represents;
-        sound_cells = shared.sound_now;
-        no_install = λ n f q k is. let st : Standing h.placing h.course (h.plain n f) n f q k = subst
-            (CellOk z.seats b.status h.attempt h.placing h.course (h.plain n f) n f) is (shared.each_cell n f) in
-            nothing_stands b h s.views id v held.kept at live last all free q
-            (install_is_present sound z b h shared n f q k is).0 k st.stands;
-        ranges = shared.ranges;
-        statuses = shared.statuses;
-        referred = refers b h shared;
-        plain = λ n f. subst (IsPlainValue b n f (b.cell n f)) (shared.tied n f) (plain_value sound z b h shared n f);
-        one = λ n f x is. one_plain_value sound z b h shared n f x (h.plain n f) is (plain_value sound z b h shared n f)
-            ∙ shared.tied n f;
-      }
+      (closed_by held.board held.past s.views id v ws held.kept at live last all free
+      (subst (λ (l : List ℕ). Represents z l held.board) final.2 held.represents)).0

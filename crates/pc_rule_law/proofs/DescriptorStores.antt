@@ -1,6 +1,6 @@
 -- A store to a word of the own descriptor, while nothing is published: its status is idle, so no note and no topic speaks of
 -- the words that stand there.
-use Rattle.std.proofs.Common.{◌≡◌, ◌≢◌, ℕ, ◌<◌, ◌==◌, if◌then◌else◌, true, false, [], ◌∷◌, refl, sym, ap, ◌∙◌, subst, arith}
+use Rattle.std.proofs.Common.{◌≡◌, ◌≢◌, ℕ, ◌<◌, true, false, List, [], ◌∷◌, refl, sym, ap, ◌∙◌, subst, arith}
 use mathlib.Core.Option.{none}
 use mathlib.Core.Logic.{dite}
 use native.Mathlib.Decide.{ℕ_discrete}
@@ -9,15 +9,24 @@ use Rattle.pc_model.specs.Cells.{Cells}
 use Rattle.pc_rule_law.specs.Board.{Size, own_word, at_own, address, Inside, descriptor_words, Board, Only, put, put2}
 use Rattle.pc_rule_law.specs.Past.{Past}
 use Rattle.pc_rule_law.specs.Stages.{IsIdle}
-use Rattle.pc_rule_law.specs.Views.{word_in, View, NoteHolds, AllNotes}
-use Rattle.pc_rule_law.specs.Rule.{Own, OwnTries, Known, Shared, Holds}
+use Rattle.pc_rule_law.specs.Views.{word_in, View, NoteHolds}
+use Rattle.pc_rule_law.specs.Rule.{Own, OwnTries, Shared, Holds}
 use Rattle.pc_rule_law.specs.Conditions.{CanWrite}
-use Rattle.pc_rule_law.specs.Plays.{Mine, after_write, Wrote, writes}
+use Rattle.pc_rule_law.specs.Plays.{Mine, SameSeat, after_write, Wrote, writes}
 use Rattle.pc_rule_law.proofs.Lists.{all_none}
 use Rattle.pc_rule_law.proofs.Updates.{put-here, put-else, put2-here, put2-else}
 use Rattle.pc_rule_law.proofs.Frames.{only_word}
 use Rattle.pc_rule_law.proofs.Keeping.{Moves, kept_after}
-use Rattle.pc_rule_law.proofs.Steps.{SameValues, same_values, allowed}
+use Rattle.pc_rule_law.proofs.Steps.{StoresWord, Owes, allowed}
+
+-- the words that were stored, with one more
+pub word_stored : (slots : ℕ) (b : Board) (id : ℕ) (words : List (ℕ × ℕ))
+    → ((j : ℕ) → j < descriptor_words slots → b.word id j ≡ word_in words j) → (place x j : ℕ) → j < descriptor_words slots
+    → put2 b.word id place x id j ≡ word_in ((place, x) ∷ words) j
+word_stored slots b id words were place x j lt = dite (ℕ_discrete j place)
+    (λ e. subst (λ (k : ℕ). put2 b.word id place x id k ≡ put (word_in words) place x k) (sym e)
+    (put2-here b.word id place x ∙ sym (put-here (word_in words) place x)))
+    (λ ne. put2-else b.word id place id j x (λ _. ne) ∙ (were j lt ∙ sym (put-else (word_in words) place j x ne)))
 
 module _ (sound : ℕ → Cells → Type 0) (z : Size) (b : Board) (h : Past) (id : ℕ) (v : View) (s : Shared sound z b h)
     (own : Own z b.install h.course id v) (tries : OwnTries z.slots b id v.attempt) (known : h.posted ≡ false) (can : CanWrite v)
@@ -36,11 +45,7 @@ module _ (sound : ℕ → Cells → Type 0) (z : Size) (b : Board) (h : Past) (i
   busy_other q busy e = busy (subst (λ (r : ℕ). IsIdle (b.status r).stage) (sym e) (tries.resting can.1))
 
   stored : (j : ℕ) → j < descriptor_words z.slots → word' id j ≡ word_in (after_write v place x).attempt.words j
-  stored j lt = dite (ℕ_discrete j place)
-      (λ e. subst (λ (k : ℕ). word' id k ≡ put (word_in v.attempt.words) place x k) (sym e)
-      (put2-here b.word id place x ∙ sym (put-here (word_in v.attempt.words) place x)))
-      (λ ne. put2-else b.word id place id j x (λ _. ne)
-      ∙ (tries.words j lt ∙ sym (put-else (word_in v.attempt.words) place j x ne)))
+  stored = word_stored z.slots b id v.attempt.words tries.words place x
 
   moves : Moves sound z b h id v b' h (after_write v place x) []
   moves = record {
@@ -78,14 +83,11 @@ module _ (sound : ℕ → Cells → Type 0) (z : Size) (b : Board) (h : Past) (i
   }
 
 module _ (sound : ℕ → Cells → Type 0) (z : Size) where
-  -- a store of x to this word of the own descriptor
-  pub store_word : (slots id : ℕ) (me : Mine) (place x : ℕ) → me.0.size ≡ z → me.0.live ≡ true → CanWrite me.0
-      → Inside z (at_own me.0.seat (own_word place))
-      → Allows (Holds sound z) slots id me (address z (at_own me.0.seat (own_word place))) (λ _. x)
-      (λ _. writes (step slots (address z (at_own me.0.seat (own_word place))) x 0 none) me x)
-  store_word slots id me place x sized live can in_p = let v = me.0 in
-      allowed sound z SameValues slots id me (at_own v.seat (own_word place)) (λ _. x) (λ _. Wrote v x) in_p sized
-      (λ b h views kept at. let s = kept.shared in let mine = kept.each_view id v at in let own = mine.own live in
+  pub word_owes : (id : ℕ) (v : View) (place x : ℕ) → v.live ≡ true → CanWrite v → Inside z (at_own v.seat (own_word place))
+      → Owes sound z (StoresWord id place x) id v (at_own v.seat (own_word place)) (λ _. x)
+      (λ _ w. SameSeat v w × Wrote v x w (at_own v.seat (own_word place)))
+  word_owes id v place x live can in_p b h views kept at =
+      let s = kept.shared in let mine = kept.each_view id v at in let own = mine.own live in
       let tries = mine.tries live can.0 in
       let b' : Board = record b { word = put2 b.word id place x } in
       let w : View = after_write v place x in
@@ -97,6 +99,15 @@ module _ (sound : ℕ → Cells → Type 0) (z : Size) where
         is = ap (λ (i : ℕ). put2 b.word id place x i place) own.seated.0 ∙ put2-here b.word id place x;
         kept = kept_after sound z b h views id v b' h w [] kept at live
             (moves sound z b h id v s own tries.1 tries.0 can place x);
-        happens = same_values h;
+        happens = (refl, refl);
         told = ((refl, refl, refl, refl, refl), λ _. refl);
-      })
+      }
+
+  -- a store of x to this word of the own descriptor
+  pub store_word : (slots id : ℕ) (me : Mine) (place x : ℕ) → me.0.size ≡ z → me.0.live ≡ true → CanWrite me.0
+      → Inside z (at_own me.0.seat (own_word place))
+      → Allows (Holds sound z) slots id me (address z (at_own me.0.seat (own_word place))) (λ _. x)
+      (λ _. writes (step slots (address z (at_own me.0.seat (own_word place))) x 0 none) me x)
+  store_word slots id me place x sized live can in_p = let v = me.0 in
+      allowed sound z (StoresWord id place x) slots id me (at_own v.seat (own_word place)) (λ _. x) (λ _. Wrote v x) in_p sized
+      (word_owes id v place x live can in_p)

@@ -11,11 +11,11 @@ use Rattle.pc_rule_law.specs.Board.{Size, own_install, at_own, address, Inside, 
 use Rattle.pc_rule_law.specs.Past.{Has, Placing, Past, placing_word}
 use Rattle.pc_rule_law.specs.Views.{Note, placed, loaded, install_word, removed, View, NoteHolds, IsInstall, InstallWordInRange, AllNotes, with_notes}
 use Rattle.pc_rule_law.specs.Rule.{Placed, Shared, Holds}
-use Rattle.pc_rule_law.specs.Plays.{Mine, InstallLoaded, LoadedInstall, loads_install}
+use Rattle.pc_rule_law.specs.Plays.{Mine, SameSeat, InstallLoaded, LoadedInstall, loads_install}
 use Rattle.pc_rule_law.proofs.Lists.{all_none, all_one, all_more, has_left, has_first, has_later}
 use Rattle.pc_rule_law.proofs.Keeping.{noted_more}
 use Rattle.pc_rule_law.proofs.Learning.{learnt, has_learnt, all_learnt, only_if, when, has_if_same, has_only_if, all_only_if, has_when, all_when, later_more}
-use Rattle.pc_rule_law.proofs.Steps.{SameValues, same_values, looked}
+use Rattle.pc_rule_law.proofs.Steps.{Looks, looked}
 
 not_both : (c : Bool) → not c ≡ true → c ≡ true → ⊥
 not_both true e d = absurd (cc)
@@ -80,21 +80,16 @@ module _ (sound : ℕ → Cells → Type 0) (z : Size) where
   install_learnt b h s q zero lt _ g = all_none (NoteHolds z b h)
   install_learnt b h s q (suc place) lt _ g = all_none (NoteHolds z b h)
 
-  -- a load of a word of the install descriptor of q
-  pub load_install : (slots id : ℕ) (me : Mine) (q place : ℕ) → me.0.size ≡ z → me.0.live ≡ true
-      → Inside z (at_own q (own_install place))
-      → Allows (Holds sound z) slots id me (address z (at_own q (own_install place))) (λ r. r)
-      (loads_install (step slots (address z (at_own q (own_install place))) 0 0 none) me)
-  load_install slots id me q place sized live in_p = looked sound z SameValues same_values slots id me
-      (at_own q (own_install place)) (LoadedInstall me.0) in_p sized
-      (λ b h views k at. let v = me.0 in let r : ℕ = b.install q place in
+  pub install_looks : (id : ℕ) (v : View) (q place : ℕ) → v.live ≡ true → Inside z (at_own q (own_install place))
+      → Looks sound z id v (at_own q (own_install place)) (λ r w. SameSeat v w × InstallLoaded v q place r w)
+  install_looks id v q place live in_p b h views k at = let r : ℕ = b.install q place in
       let more = learnt (learn_install q place r) v.notes in let mine = k.each_view id v at in (
         with_notes v more,
         noted_more sound z b h views id v more k at live
             (all_learnt (NoteHolds z b h) (learn_install q place r) v.notes
             (λ x has. install_learnt b h k.shared q place in_p.1 x (mine.noted x has))),
         ((refl, refl, refl, refl, refl), install_loaded v q place r),
-      ))
+      )
     where
       loads_now : (v : View) (q place r k n : ℕ) (f : Field) → Has v.notes (placed q k n f)
           → Has (learnt (learn_install q place r) v.notes) (loaded q k place r)
@@ -133,3 +128,11 @@ module _ (sound : ℕ → Cells → Type 0) (z : Size) where
             (subst (λ (u : ℕ). Has (learnt (learn_install q u r) v.notes) (removed q k)) (sym zero_place)
             (removes_now v q r k n f has ne));
       }
+
+  -- a load of a word of the install descriptor of q
+  pub load_install : (slots id : ℕ) (me : Mine) (q place : ℕ) → me.0.size ≡ z → me.0.live ≡ true
+      → Inside z (at_own q (own_install place))
+      → Allows (Holds sound z) slots id me (address z (at_own q (own_install place))) (λ r. r)
+      (loads_install (step slots (address z (at_own q (own_install place))) 0 0 none) me)
+  load_install slots id me q place sized live in_p = looked sound z slots id me
+      (at_own q (own_install place)) (LoadedInstall me.0) in_p sized (install_looks id me.0 q place live in_p)

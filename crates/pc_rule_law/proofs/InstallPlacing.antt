@@ -14,10 +14,10 @@ use Rattle.pc_words.proofs.Words.{kind_raw, raw_is_word, raw_injective}
 use Rattle.pc_rule_law.specs.Board.{Size, at_cell, address, Inside, Board, put2, put_cell}
 use Rattle.pc_rule_law.specs.Past.{Has, Placing, Past, change, placing_word}
 use Rattle.pc_rule_law.specs.Stages.{IsUndecided, DecidedBelow}
-use Rattle.pc_rule_law.specs.Views.{Note, entry, placed, install_word, View, NoteHolds, IsInstall, AllNotes, with_notes}
+use Rattle.pc_rule_law.specs.Views.{Note, placed, install_word, View, NoteHolds, IsInstall, AllNotes, with_notes}
 use Rattle.pc_rule_law.specs.Rule.{Standing, CellOk, Placed, Own, Shared, Holds}
 use Rattle.pc_rule_law.specs.Conditions.{CanPlace}
-use Rattle.pc_rule_law.specs.Plays.{Mine, found, own_notes, after_place, PlacedInstall, places_install}
+use Rattle.pc_rule_law.specs.Plays.{Mine, SameSeat, InstallTried, InstallPlaced, found, own_notes, after_place, PlacedInstall, places_install}
 use Rattle.pc_rule_law.specs.Tables.{KeepsOpening}
 use Rattle.pc_rule_law.proofs.Lists.{all_more, all_none}
 use Rattle.pc_rule_law.proofs.Updates.{put2-here, put2-else, at_put2, put_cell-here}
@@ -28,7 +28,7 @@ use Rattle.pc_rule_law.proofs.Descriptors.{known_entry}
 use Rattle.pc_rule_law.proofs.Keeping.{kept_after, noted_more}
 use Rattle.pc_rule_law.proofs.WordMoves.{with_cell, with_installs, WordMoves, IsKept, IsEnded, IsBegun, word_moved}
 use Rattle.pc_rule_law.proofs.Looks.{found_holds, told_kind, plain_at_opening}
-use Rattle.pc_rule_law.proofs.Steps.{SameValues, same_values, swapped}
+use Rattle.pc_rule_law.proofs.Steps.{MovesWord, Hits, Misses, swapped}
 
 -- an attempt that was published is undecided, or decided: as a number that is remembered
 early_or_late : (status : ℕ → Status) (p a : ℕ) → a ≤ (status p).number
@@ -193,16 +193,25 @@ module _ (sound : ℕ → Cells → Type 0) (z : Size) (b : Board) (h : Past) (i
     }
 
 module _ (sound : ℕ → Cells → Type 0) (z : Size) where
-  -- the own install in place of the plain value x of a word of node n, for attempt a of pass p
-  pub place_install : KeepsOpening sound z → (slots id : ℕ) (me : Mine) (n : ℕ) (f : Field) (x p a : ℕ) → CanPlace z me.0 n f x p a
-      → Inside z (at_cell n f)
-      → let old : ℕ = raw (Plain x) in let new : ℕ = raw (Install me.0.seat me.0.install.number) in
-      Allows (Holds sound z) slots id me (address z (at_cell n f)) (λ i. either (eqb i old) new i)
-      (places_install (step slots (address z (at_cell n f)) old new none) me)
-  place_install keeps slots id me n f x p a can in_p = let v = me.0 in let old : ℕ = raw (Plain x) in
-      let new : ℕ = raw (Install v.seat v.install.number) in
-      swapped sound z SameValues same_values slots id me (at_cell n f) old new (PlacedInstall v old) in_p can.sized
-      (λ b h views kept at hit. let s = kept.shared in let mine = kept.each_view id v at in
+  -- no install of the pass stands while its number is fresh
+  not_own : (sound : ℕ → Cells → Type 0) (z : Size) (b : Board) (h : Past) (id : ℕ) (v : View) (n : ℕ)
+      (f : Field) → Shared sound z b h → Own z b.install h.course id v → v.fresh ≡ true → (q j : ℕ)
+      → b.cell n f ≡ Install q j → q ≡ id → ⊥
+  not_own sound z b h id v n f s own fresh q j is e = let st : Standing h.placing h.course
+      (h.plain n f) n f q j = subst (CellOk z.seats b.status h.attempt h.placing h.course (h.plain n f) n f) is
+      (s.each_cell n f) in
+      let one : h.course q j ≡ 1 = st.stands in
+      let y = s.installs q j (omega arith) in
+      let number : v.install.number ≡ j = sym (own.known 0 (omega arith))
+      ∙ (ap (λ (i : ℕ). b.install i 0) (sym e) ∙ y.present st.stands) in
+      let zero_course : h.course q j ≡ 0 = ap₂ h.course e (sym number) ∙ own.unplaced fresh in omega arith
+
+  -- where the plain value is found, the own install is placed
+  pub place_hits : (id : ℕ) (v : View) (n : ℕ) (f : Field) (x p a : ℕ) → CanPlace z v n f x p a → Inside z (at_cell n f)
+      → Hits sound z (MovesWord z id n f (Install id v.install.number)) id v (at_cell n f) (raw (Plain x))
+      (raw (Install v.seat v.install.number)) (λ r w. SameSeat v w × InstallTried v n f (raw (Plain x)) r w)
+  place_hits id v n f x p a can in_p b h views kept at hit =
+      let s = kept.shared in let mine = kept.each_view id v at in
       let own = mine.own can.live in
       let is : b.cell n f ≡ Plain x = raw_injective (b.cell n f) (Plain x) (s.ranges n f) can.small.1 hit in
       let known = known_entry sound z b h s id v own mine.noted (mine.tries can.live) p a n f x can.listed in
@@ -226,7 +235,7 @@ module _ (sound : ℕ → Cells → Type 0) (z : Size) where
             (moves sound z b h id v n f x p a kept.few s own can in_p is e begun el.1) v w (own_notes v n f)
             (refl, refl, refl, refl) refl
             (own_after sound z b h id v n f x p a kept.few s own can in_p is e) (mine.tries can.live) good);
-        happens = record { plain = λ _ _. refl; cells = refl };
+        happens = record { placing' = pl; course' = co; moves = moves sound z b h id v n f x p a kept.few s own can in_p is e begun el.1; board = refl; past = refl };
         told = (
           (refl, refl, refl, refl, refl),
           record {
@@ -236,11 +245,14 @@ module _ (sound : ℕ → Cells → Type 0) (z : Size) where
             other = λ q j found_it. absurd
                 (plain_not_install x q j (sym is
                 ∙ (sym (told_kind (b.cell n f) (s.ranges n f) (raw (b.cell n f)) refl) ∙ found_it)));
-            plain = plain_at_opening sound z keeps b h s v can.sized n f (raw (b.cell n f)) refl;
           },
         );
-      })
-      (λ b h views kept at miss. let s = kept.shared in let mine = kept.each_view id v at in
+      }
+
+  pub place_misses : (id : ℕ) (v : View) (n : ℕ) (f : Field) (x p a : ℕ) → CanPlace z v n f x p a → Inside z (at_cell n f)
+      → Misses sound z id v (at_cell n f) (raw (Plain x)) (λ r w. SameSeat v w × InstallTried v n f (raw (Plain x)) r w)
+  place_misses id v n f x p a can in_p b h views kept at miss =
+      let s = kept.shared in let mine = kept.each_view id v at in
       let own = mine.own can.live in let w = b.cell n f in let small = s.ranges n f in
       let same : kind (raw w) ≡ w = kind_raw w small in (
         with_notes v (found n f w),
@@ -254,20 +266,34 @@ module _ (sound : ℕ → Cells → Type 0) (z : Size) where
             miss = λ _. ap (λ (u : WordKind). with_notes v (found n f u)) (sym same);
             other = λ q j found_it own_seat. not_own sound z b h id v n f s own can.fresh q j (sym same ∙ found_it)
                 (own_seat ∙ own.seated.0);
-            plain = plain_at_opening sound z keeps b h s v can.sized n f (raw w) refl;
           },
         ),
-      ))
-    where
-      -- no install of the pass stands while its number is fresh
-      not_own : (sound : ℕ → Cells → Type 0) (z : Size) (b : Board) (h : Past) (id : ℕ) (v : View) (n : ℕ)
-          (f : Field) → Shared sound z b h → Own z b.install h.course id v → v.fresh ≡ true → (q j : ℕ)
-          → b.cell n f ≡ Install q j → q ≡ id → ⊥
-      not_own sound z b h id v n f s own fresh q j is e = let st : Standing h.placing h.course
-          (h.plain n f) n f q j = subst (CellOk z.seats b.status h.attempt h.placing h.course (h.plain n f) n f) is
-          (s.each_cell n f) in
-          let one : h.course q j ≡ 1 = st.stands in
-          let y = s.installs q j (omega arith) in
-          let number : v.install.number ≡ j = sym (own.known 0 (omega arith))
-          ∙ (ap (λ (i : ℕ). b.install i 0) (sym e) ∙ y.present st.stands) in
-          let zero_course : h.course q j ≡ 0 = ap₂ h.course e (sym number) ∙ own.unplaced fresh in omega arith
+      )
+
+  -- what was tried, where sound cells are those of the opening
+  placed_at_opening : KeepsOpening sound z → (b : Board) (h : Past) → Shared sound z b h → (v : View) → v.size ≡ z → (n : ℕ)
+      (f : Field) (old : ℕ) (w : View) → InstallTried v n f old (raw (b.cell n f)) w
+      → InstallPlaced v n f old (raw (b.cell n f)) w
+  placed_at_opening keeps b h s v sized n f old w t = record { word = t.word; hit = t.hit; miss = t.miss; other = t.other; plain = plain_at_opening sound z keeps b h s v sized n f (raw (b.cell n f)) refl }
+
+  -- the own install in place of the plain value x of a word of node n, for attempt a of pass p
+  pub place_install : KeepsOpening sound z → (slots id : ℕ) (me : Mine) (n : ℕ) (f : Field) (x p a : ℕ) → CanPlace z me.0 n f x p a
+      → Inside z (at_cell n f)
+      → let old : ℕ = raw (Plain x) in let new : ℕ = raw (Install me.0.seat me.0.install.number) in
+      Allows (Holds sound z) slots id me (address z (at_cell n f)) (λ i. either (eqb i old) new i)
+      (places_install (step slots (address z (at_cell n f)) old new none) me)
+  place_install keeps slots id me n f x p a can in_p = let v = me.0 in let old : ℕ = raw (Plain x) in
+      let new : ℕ = raw (Install v.seat v.install.number) in
+      swapped sound z (MovesWord z id n f (Install id v.install.number)) slots id me (at_cell n f) old new (PlacedInstall v old) in_p can.sized
+      (λ b h views kept at hit. let g = place_hits id v n f x p a can in_p b h views kept at hit in record {
+        view = g.view;
+        board = g.board;
+        past = g.past;
+        only = g.only;
+        is = g.is;
+        kept = g.kept;
+        happens = g.happens;
+        told = (g.told.0, placed_at_opening keeps b h kept.shared v can.sized n f old g.view g.told.1);
+      })
+      (λ b h views kept at miss. let g = place_misses id v n f x p a can in_p b h views kept at miss in
+      (g.0, g.1, (g.2.0, placed_at_opening keeps b h kept.shared v can.sized n f old g.0 g.2.1)))

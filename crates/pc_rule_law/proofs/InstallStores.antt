@@ -11,12 +11,12 @@ use Rattle.pc_rule_law.specs.Past.{Past, placing_word}
 use Rattle.pc_rule_law.specs.Views.{removed, OwnInstall, own_install_word, View, NoteHolds, AllNotes}
 use Rattle.pc_rule_law.specs.Rule.{Placed, Own, OwnTries, Shared, Holds}
 use Rattle.pc_rule_law.specs.Conditions.{IsFree, CanStore}
-use Rattle.pc_rule_law.specs.Plays.{Mine, with_install_word, fresh_after, after_store, Stored, stores}
+use Rattle.pc_rule_law.specs.Plays.{Mine, SameSeat, with_install_word, fresh_after, after_store, Stored, stores}
 use Rattle.pc_rule_law.proofs.Lists.{all_none}
 use Rattle.pc_rule_law.proofs.Updates.{put2-here, put2-else}
 use Rattle.pc_rule_law.proofs.Frames.{only_install}
 use Rattle.pc_rule_law.proofs.Keeping.{Moves, kept_after}
-use Rattle.pc_rule_law.proofs.Steps.{SameValues, same_values, allowed}
+use Rattle.pc_rule_law.proofs.Steps.{StoresInstall, Owes, allowed}
 
 -- the words of a descriptor, one of them changed
 word_here : (d : OwnInstall) (place x : ℕ) → place < 4 → own_install_word (with_install_word d place x) place ≡ x
@@ -175,14 +175,12 @@ module _ (sound : ℕ → Cells → Type 0) (z : Size) (b : Board) (h : Past) (i
     }
 
 module _ (sound : ℕ → Cells → Type 0) (z : Size) where
-  -- a store of x to this word of the own install descriptor
-  pub store_install : (slots id : ℕ) (me : Mine) (place x : ℕ) → me.0.size ≡ z → me.0.live ≡ true
-      → CanStore me.0 place x → Inside z (at_own me.0.seat (own_install place))
-      → Allows (Holds sound z) slots id me (address z (at_own me.0.seat (own_install place))) (λ _. x)
-      (λ _. stores (step slots (address z (at_own me.0.seat (own_install place))) x 0 none) me x)
-  store_install slots id me place x sized live can in_p = let v = me.0 in
-      allowed sound z SameValues slots id me (at_own v.seat (own_install place)) (λ _. x) (λ _. Stored v x) in_p sized
-      (λ b h views kept at. let s = kept.shared in let mine = kept.each_view id v at in let own = mine.own live in
+  pub store_owes : (id : ℕ) (v : View) (place x : ℕ) → v.live ≡ true → CanStore v place x
+      → Inside z (at_own v.seat (own_install place))
+      → Owes sound z (StoresInstall id place x) id v (at_own v.seat (own_install place)) (λ _. x)
+      (λ _ w. SameSeat v w × Stored v x w (at_own v.seat (own_install place)))
+  store_owes id v place x live can in_p b h views kept at =
+      let s = kept.shared in let mine = kept.each_view id v at in let own = mine.own live in
       let b' : Board = record b { install = put2 b.install id place x } in
       let w : View = after_store v place x in
       record {
@@ -194,6 +192,15 @@ module _ (sound : ℕ → Cells → Type 0) (z : Size) where
         is = ap (λ (i : ℕ). put2 b.install id place x i place) own.seated.0 ∙ put2-here b.install id place x;
         kept = kept_after sound z b h views id v b' h w [] kept at live
             (moves sound z b h id v s own mine.noted (mine.tries live) place x can in_p.1);
-        happens = same_values h;
+        happens = (refl, refl);
         told = ((refl, refl, refl, refl, refl), λ _. refl);
-      })
+      }
+
+  -- a store of x to this word of the own install descriptor
+  pub store_install : (slots id : ℕ) (me : Mine) (place x : ℕ) → me.0.size ≡ z → me.0.live ≡ true
+      → CanStore me.0 place x → Inside z (at_own me.0.seat (own_install place))
+      → Allows (Holds sound z) slots id me (address z (at_own me.0.seat (own_install place))) (λ _. x)
+      (λ _. stores (step slots (address z (at_own me.0.seat (own_install place))) x 0 none) me x)
+  store_install slots id me place x sized live can in_p = let v = me.0 in
+      allowed sound z (StoresInstall id place x) slots id me (at_own v.seat (own_install place)) (λ _. x) (λ _. Stored v x) in_p sized
+      (store_owes id v place x live can in_p)

@@ -4,6 +4,7 @@ pub mod DescriptorLooks
 pub mod DescriptorStores
 pub mod Descriptors
 pub mod Frames
+pub mod InstallEnds
 pub mod InstallLooks
 pub mod InstallPlacing
 pub mod InstallStores

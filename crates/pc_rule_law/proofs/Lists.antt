@@ -19,6 +19,10 @@ module _ {V : Type 0} where
   below_length (x ∷ xs) zero a e = omega arith
   below_length (x ∷ xs) (suc i) a e = let r = below_length xs i a e in omega arith
 
+  pub each_one : (v : V) (P : ℕ → V → Type 0) → P 0 v → Each (v ∷ []) P
+  each_one v P here zero u at = subst (P 0) (some-injective v u at) here
+  each_one v P here (suc j) u at = absurd (some-ne-none u (sym at))
+
   pub each_snoc : (views : List V) (w : V) (P : ℕ → V → Type 0) → Each views P → P (length views) w
       → Each (views ++ w ∷ []) P
   each_snoc [] w P all here zero v at = subst (P 0) (some-injective w v at) here

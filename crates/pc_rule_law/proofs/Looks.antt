@@ -14,11 +14,11 @@ use Rattle.pc_rule_law.specs.Board.{Size, at_cell, address, Inside, Board}
 use Rattle.pc_rule_law.specs.Past.{Past}
 use Rattle.pc_rule_law.specs.Views.{View, version, placed, held, IsNoted, NoteInRange, NoteHolds, AllNotes, with_notes}
 use Rattle.pc_rule_law.specs.Rule.{Standing, CellOk, Placed, Shared, Holds}
-use Rattle.pc_rule_law.specs.Plays.{Mine, found, IsOpeningWord, LoadedCell, loads_cell}
+use Rattle.pc_rule_law.specs.Plays.{Mine, SameSeat, found, IsOpeningWord, CellFound, LoadedCell, loads_cell}
 use Rattle.pc_rule_law.specs.Tables.{KeepsOpening}
 use Rattle.pc_rule_law.proofs.Lists.{all_none, all_one}
 use Rattle.pc_rule_law.proofs.Keeping.{noted_more}
-use Rattle.pc_rule_law.proofs.Steps.{SameValues, same_values, looked}
+use Rattle.pc_rule_law.proofs.Steps.{Looks, looked}
 
 module _ (sound : ℕ → Cells → Type 0) (z : Size) (b : Board) (h : Past) (s : Shared sound z b h) where
   -- an install that stands is one of those that were placed
@@ -84,20 +84,28 @@ module _ (sound : ℕ → Cells → Type 0) (z : Size) where
       subst (CellOk z.seats b.status h.attempt h.placing h.course (h.plain n f) n f) is (s.each_cell n f)
       ∙ (s.tied n f ∙ (keeps h.cells s.sound_now n f ∙ ap (λ (y : Size). opening_cells y.starts.version n f) (sym sized)))
 
+  -- of a word of a node is told what stands in it
+  pub cell_looks : (id : ℕ) (v : View) (n : ℕ) (f : Field) → v.live ≡ true → Inside z (at_cell n f)
+      → Looks sound z id v (at_cell n f) (λ r w. SameSeat v w × CellFound v n f r w)
+  cell_looks id v n f live in_p b h views k at = let w = b.cell n f in let s = k.shared in let small = s.ranges n f in (
+    with_notes v (found n f w),
+    noted_more sound z b h views id v (found n f w) k at live
+        (found_holds sound z b h s n f w refl in_p small (s.each_cell n f)),
+    (
+      (refl, refl, refl, refl, refl),
+      (raw_is_word w small, ap (λ (u : WordKind). with_notes v (found n f u)) (sym (kind_raw w small))),
+    ),
+  )
+
   -- a load of a word of a node
   pub load_cell : KeepsOpening sound z → (slots id : ℕ) (me : Mine) (n : ℕ) (f : Field) → me.0.size ≡ z → me.0.live ≡ true
       → Inside z (at_cell n f)
       → Allows (Holds sound z) slots id me (address z (at_cell n f)) (λ r. r)
       (loads_cell (step slots (address z (at_cell n f)) 0 0 none) me)
-  load_cell keeps slots id me n f sized live in_p = looked sound z SameValues same_values slots id me (at_cell n f)
+  load_cell keeps slots id me n f sized live in_p = looked sound z slots id me (at_cell n f)
       (LoadedCell me.0) in_p sized
-      (λ b h views k at. let v = me.0 in let w = b.cell n f in let s = k.shared in let small = s.ranges n f in
-      let same : kind (raw w) ≡ w = kind_raw w small in (
-        with_notes v (found n f w),
-        noted_more sound z b h views id v (found n f w) k at live
-            (found_holds sound z b h s n f w refl in_p small (s.each_cell n f)),
-        (
-          (refl, refl, refl, refl, refl),
-          (raw_is_word w small, ap (λ (u : WordKind). with_notes v (found n f u)) (sym same), plain_at_opening keeps b h s v sized n f (raw w) refl),
-        ),
+      (λ b h views k at. let g = cell_looks id me.0 n f live in_p b h views k at in (
+        g.0,
+        g.1,
+        (g.2.0, (g.2.1.0, g.2.1.1, plain_at_opening keeps b h k.shared me.0 sized n f (raw (b.cell n f)) refl)),
       ))

@@ -124,7 +124,7 @@ described_all slots posted p zero = describes_itself slots []
 described_all slots posted p (suc zero) = describes_itself slots (opening_changes posted p)
 described_all slots posted p (suc (suc a)) = describes_itself slots []
 
-no_words : (place : ℕ) → descriptor_word [] place ≡ 0
+pub no_words : (place : ℕ) → descriptor_word [] place ≡ 0
 no_words zero = refl
 no_words (suc zero) = refl
 no_words (suc (suc zero)) = refl

@@ -1,18 +1,18 @@
 -- The own next attempt is published: its words stand in the descriptor, and the status, which was idle, says it.
-use Rattle.std.proofs.Common.{◌≡◌, ℕ, ◌+◌, ◌<◌, true, false, [], refl, sym, ap, ◌∙◌, subst, arith}
+use Rattle.std.proofs.Common.{◌≡◌, ℕ, ◌+◌, true, [], refl, sym, ap, ◌∙◌, subst, arith}
 use mathlib.Core.Option.{none}
 use Rattle.atomic_table.specs.Table.{step, Allows}
 use Rattle.pc_model.specs.Cells.{Cells}
 use Rattle.pc_words.specs.declared.status.Stage.TheVariants.{Undecided}
 use Rattle.pc_words.specs.declared.status.Status.{Status}
 use Rattle.pc_words.specs.Statuses.{packed}
-use Rattle.pc_rule_law.specs.Board.{Size, own_status, at_own, address, Inside, descriptor_words, Board, Only, put, put2}
+use Rattle.pc_rule_law.specs.Board.{Size, own_status, at_own, address, Inside, Board, Only, put, put2}
 use Rattle.pc_rule_law.specs.Past.{Attempt, Past, Describes, IsFormed}
 use Rattle.pc_rule_law.specs.Stages.{IsIdle}
 use Rattle.pc_rule_law.specs.Views.{word_in, View, NoteHolds}
-use Rattle.pc_rule_law.specs.Rule.{OwnTries, Holds}
+use Rattle.pc_rule_law.specs.Rule.{Holds}
 use Rattle.pc_rule_law.specs.Conditions.{CanPublish}
-use Rattle.pc_rule_law.specs.Plays.{Mine, after_publish, Published, publishes}
+use Rattle.pc_rule_law.specs.Plays.{Mine, SameSeat, after_publish, Published, publishes}
 use Rattle.pc_rule_law.proofs.Lists.{all_none}
 use Rattle.pc_rule_law.proofs.Updates.{put-here}
 use Rattle.pc_rule_law.proofs.Frames.{only_status}
@@ -20,20 +20,19 @@ use Rattle.pc_rule_law.proofs.Descriptors.{described_alike}
 use Rattle.pc_rule_law.proofs.Keeping.{kept_after}
 use Rattle.pc_rule_law.proofs.Outcomes.{publishes as published}
 use Rattle.pc_rule_law.proofs.StatusMoves.{with_status, with_values, status_moved}
-use Rattle.pc_rule_law.proofs.Steps.{SameValues, allowed}
+use Rattle.pc_rule_law.proofs.Steps.{Publishes, Owes, allowed}
 
 -- the status of the own next attempt
 abbrev pub next_status : View → Status
 next_status v = record { number = v.attempt.number + 1; stage = Undecided }
 
 module _ (sound : ℕ → Cells → Type 0) (z : Size) where
-  pub publish_attempt : (slots id : ℕ) (me : Mine) (e : Attempt) → me.0.size ≡ z → me.0.live ≡ true → CanPublish me.0 e
-      → Inside z (at_own me.0.seat own_status)
-      → Allows (Holds sound z) slots id me (address z (at_own me.0.seat own_status)) (λ _. packed (next_status me.0))
-      (λ _. publishes (step slots (address z (at_own me.0.seat own_status)) (packed (next_status me.0)) 0 none) me (packed (next_status me.0)))
-  publish_attempt slots id me e sized live can in_p = let v = me.0 in
-      allowed sound z SameValues slots id me (at_own v.seat own_status) (λ _. packed (next_status v)) (λ _. Published v) in_p sized
-      (λ b h views kept at. let s = kept.shared in let mine = kept.each_view id v at in let own = mine.own live in
+  pub publish_owes : (id : ℕ) (v : View) (e : Attempt) → v.size ≡ z → v.live ≡ true → CanPublish v e
+      → Inside z (at_own v.seat own_status)
+      → Owes sound z (Publishes id e) id v (at_own v.seat own_status) (λ _. packed (next_status v))
+      (λ _ w. SameSeat v w × Published v w (at_own v.seat own_status))
+  publish_owes id v e sized live can in_p b h views kept at =
+      let s = kept.shared in let mine = kept.each_view id v at in let own = mine.own live in
       let both = mine.tries live can.may.0 in let tries = both.1 in
       let a : ℕ = (b.status id).number in let number : a ≡ v.attempt.number = tries.number in
       let t : Status = record { number = a + 1; stage = Undecided } in
@@ -65,6 +64,14 @@ module _ (sound : ℕ → Cells → Type 0) (z : Size) where
               },
             ))
             (all_none (NoteHolds z b' h')));
-        happens = record { plain = λ _ _. refl; cells = refl };
+        happens = (refl, refl);
         told = ((refl, refl, refl, refl, refl), λ _. refl);
-      })
+      }
+
+  pub publish_attempt : (slots id : ℕ) (me : Mine) (e : Attempt) → me.0.size ≡ z → me.0.live ≡ true → CanPublish me.0 e
+      → Inside z (at_own me.0.seat own_status)
+      → Allows (Holds sound z) slots id me (address z (at_own me.0.seat own_status)) (λ _. packed (next_status me.0))
+      (λ _. publishes (step slots (address z (at_own me.0.seat own_status)) (packed (next_status me.0)) 0 none) me (packed (next_status me.0)))
+  publish_attempt slots id me e sized live can in_p = let v = me.0 in
+      allowed sound z (Publishes id e) slots id me (at_own v.seat own_status) (λ _. packed (next_status v)) (λ _. Published v) in_p sized
+      (publish_owes id v e sized live can in_p)

@@ -1,7 +1,7 @@
 -- The last pass makes another, and takes another in; and a board that opens with sound cells and one pass keeps the
 -- rule.
-use Rattle.std.proofs.Common.{◌≡◌, ◌≢◌, ℕ, zero, suc, ◌+◌, ◌<◌, ◌≤◌, Bool, true, false, List, [], ◌∷◌, length, set, length-set, length-append, refl, sym, ap, ◌∙◌, subst, arith}
-use mathlib.Core.Option.{some, some-injective, some-ne-none}
+use Rattle.std.proofs.Common.{◌≡◌, ◌≢◌, ℕ, ◌+◌, ◌<◌, ◌≤◌, Bool, true, false, List, [], ◌∷◌, ◌++◌, length, set, length-set, length-append, refl, sym, ap, ◌∙◌, subst, arith}
+use mathlib.Core.Option.{some}
 use mathlib.Core.Logic.{dite}
 use native.Mathlib.Decide.{ℕ_discrete}
 use lib.ListN.{get_elem?}
@@ -19,7 +19,7 @@ use Rattle.pc_rule_law.specs.Views.{Note, own_install_word, View, NoteHolds, All
 use Rattle.pc_rule_law.specs.Rule.{Each, CellOk, Own, OwnTries, opening_install, opening_own, Known, Kept, Holds}
 use Rattle.pc_rule_law.specs.Conditions.{IsFree}
 use Rattle.pc_rule_law.specs.Seats.{new_view, maker, made_by, joined_by, spent_view, opening_past}
-use Rattle.pc_rule_law.proofs.Lists.{each_moved, each_snoc, below_length, all_none}
+use Rattle.pc_rule_law.proofs.Lists.{each_moved, each_one, each_snoc, below_length, all_none}
 use Rattle.pc_rule_law.proofs.Updates.{put-here, put-else, at_put}
 use Rattle.pc_rule_law.proofs.InstallStores.{none_stands}
 
@@ -28,10 +28,10 @@ true_not_false e = absurd (cc)
 
 module _ (sound : ℕ → Cells → Type 0) (z : Size) where
   -- the last pass, which has taken none in, makes another
-  pub splits : (id : ℕ) (v : View) → v.live ≡ true → v.last ≡ true → v.seat + 1 < z.seats
-      → Splits (Holds sound z) id v (maker v) (made_by v)
-  splits id v live last room s held at = let k = held.kept in let b = held.board in let h = held.past in
-      let views = s.views in
+  pub split_kept : (b : Board) (h : Past) (views : List View) (id : ℕ) (v : View) → v.live ≡ true → v.last ≡ true
+      → v.seat + 1 < z.seats → Kept sound z b h views → get_elem? views id ≡ some v
+      → Kept sound z b (record h { count = h.count + 1 }) (set views id (maker v) ++ made_by v ∷ [])
+  split_kept b h views id v live last room k at =
       let mine = k.each_view id v at in let own = mine.own live in
       let count : h.count ≡ v.seat + 1 = mine.counted.last_is live last in
       let blank = k.blank h.count (omega arith) (omega arith) in
@@ -62,40 +62,35 @@ module _ (sound : ℕ → Cells → Type 0) (z : Size) where
       }) in
       let len : length (set views id (maker v)) ≡ h.count = length-set views id (maker v) ∙ k.counted in
       record {
-        board = b;
-        past = h';
-        represents = held.represents;
-        kept = record {
-          few = k.few;
-          room = omega arith;
-          counted = length-append (set views id (maker v)) (made ∷ []) ∙ ap (λ (i : ℕ). i + 1) len;
-          blank = λ j le lt. let old = k.blank j (omega arith) lt in
-              record { words = old.words; unplaced = old.unplaced; alive = old.alive };
-          untried = λ j le lt no. k.untried j (omega arith) lt no;
-          shared = let s' = k.shared in record { sound_now = s'.sound_now; tied = s'.tied; ranges = s'.ranges; statuses = s'.statuses; formed = s'.formed; described = s'.described; written = s'.written; each_cell = s'.each_cell; installs = s'.installs };
-          each_view = each_snoc (set views id (maker v)) made (Known z b h') changed
-              (subst (λ (i : ℕ). Known z b h' i made) (sym len) record {
-                own = λ _. record {
-                  sized = own.sized;
-                  seated = (sym count, omega arith);
-                  known = subst (λ (y : Size). (place : ℕ) → place < 4
-                      → b.install h.count place ≡ own_install_word (opening_install y) place) (sym own.sized) blank.words;
-                  ahead = λ i _. blank.unplaced i;
-                  unplaced = λ _. blank.unplaced v.size.starts.install;
-                };
-                tries = λ _ no. let t = mine.tries live no in (
-                  t.0,
-                  subst (λ (y : Size). OwnTries z.slots b h.count (opening_own y)) (sym own.sized)
-                      (k.untried h.count (omega arith) (omega arith) t.0),
-                );
-                counted = record {
-                  live_is = sym blank.alive;
-                  last_is = λ _ _. ap (λ (i : ℕ). i + 1) count;
-                  taken = λ _ _ i le lt ne. absurd (ne (omega arith));
-                };
-                noted = mine.noted;
-              });
-        };
+        few = k.few;
+        room = omega arith;
+        counted = length-append (set views id (maker v)) (made ∷ []) ∙ ap (λ (i : ℕ). i + 1) len;
+        blank = λ j le lt. let old = k.blank j (omega arith) lt in
+            record { words = old.words; unplaced = old.unplaced; alive = old.alive };
+        untried = λ j le lt no. k.untried j (omega arith) lt no;
+        shared = let s' = k.shared in record { sound_now = s'.sound_now; tied = s'.tied; ranges = s'.ranges; statuses = s'.statuses; formed = s'.formed; described = s'.described; written = s'.written; each_cell = s'.each_cell; installs = s'.installs };
+        each_view = each_snoc (set views id (maker v)) made (Known z b h') changed
+            (subst (λ (i : ℕ). Known z b h' i made) (sym len) record {
+              own = λ _. record {
+                sized = own.sized;
+                seated = (sym count, omega arith);
+                known = subst (λ (y : Size). (place : ℕ) → place < 4
+                    → b.install h.count place ≡ own_install_word (opening_install y) place) (sym own.sized) blank.words;
+                ahead = λ i _. blank.unplaced i;
+                unplaced = λ _. blank.unplaced v.size.starts.install;
+              };
+              tries = λ _ no. let t = mine.tries live no in (
+                t.0,
+                subst (λ (y : Size). OwnTries z.slots b h.count (opening_own y)) (sym own.sized)
+                    (k.untried h.count (omega arith) (omega arith) t.0),
+              );
+              counted = record {
+                live_is = sym blank.alive;
+                last_is = λ _ _. ap (λ (i : ℕ). i + 1) count;
+                taken = λ _ _ i le lt ne. absurd (ne (omega arith));
+              };
+              noted = mine.noted;
+            });
       }
     where
       -- there is one last pass
@@ -104,11 +99,21 @@ module _ (sound : ℕ → Cells → Type 0) (z : Size) where
           → u.last ≡ true → ⊥
       not_last z b h id v count own j u ne other alive is = let c : h.count ≡ u.seat + 1 = other.counted.last_is alive is in let here : v.seat ≡ id = own.seated.0 in let there : u.seat ≡ j = (other.own alive).seated.0 in ne (omega arith)
 
+  pub splits : (id : ℕ) (v : View) → v.live ≡ true → v.last ≡ true → v.seat + 1 < z.seats
+      → Splits (Holds sound z) id v (maker v) (made_by v)
+  splits id v live last room s held at = record {
+    board = held.board;
+    past = record held.past { count = held.past.count + 1 };
+    represents = held.represents;
+    kept = split_kept held.board held.past s.views id v live last room held.kept at;
+  }
+
   -- the last pass takes in the highest of the others, of which no install stands
-  pub joins : (id : ℕ) (v : View) (other : ℕ) (w : View) → v.live ≡ true → w.live ≡ true → v.rest ≡ w.seat + 1
-      → IsFree w → Joins (Holds sound z) id v other w (joined_by v w) spent_view
-  joins id v other w live alive rest free s held at apart at_other = let k = held.kept in let b = held.board in
-      let h = held.past in let views = s.views in let u = joined_by v w in
+  pub join_kept : (b : Board) (h : Past) (views : List View) (id : ℕ) (v : View) (other : ℕ) (w : View) → v.live ≡ true
+      → w.live ≡ true → v.rest ≡ w.seat + 1 → IsFree w → Kept sound z b h views → get_elem? views id ≡ some v → other ≢ id
+      → get_elem? (set views id (joined_by v w)) other ≡ some w
+      → Kept sound z b (record h { live = put h.live other false }) (set (set views id (joined_by v w)) other spent_view)
+  join_kept b h views id v other w live alive rest free k at apart at_other = let u = joined_by v w in
       let there : get_elem? views other ≡ some w = sym (set_else views id other u apart) ∙ at_other in
       let mine = k.each_view id v at in let own = mine.own live in let its = k.each_view other w there in
       let its_own = its.own alive in
@@ -147,42 +152,42 @@ module _ (sound : ℕ → Cells → Type 0) (z : Size) where
         noted = y.noted;
       }) in
       record {
-        board = b;
-        past = h';
-        represents = held.represents;
-        kept = record {
-          few = k.few;
-          room = k.room;
-          counted = length-set (set views id u) other spent_view ∙ (length-set views id u ∙ k.counted);
-          blank = λ j le lt. let old = k.blank j le lt in record {
-            words = old.words;
-            unplaced = old.unplaced;
-            alive = put-else h.live other j false
-                (λ e. let below : other < h.count = subst (λ (i : ℕ). other < i) k.counted
-                (below_length views other w there) in absurd (omega arith)) ∙ old.alive;
-          };
-          untried = k.untried;
-          shared = let s' = k.shared in record { sound_now = s'.sound_now; tied = s'.tied; ranges = s'.ranges; statuses = s'.statuses; formed = s'.formed; described = s'.described; written = s'.written; each_cell = s'.each_cell; installs = s'.installs };
-          each_view = each_moved (set views id u) other spent_view (λ j x. j ≢ other → Known z b h' j x)
-              (Known z b h') first
-              record {
-                own = λ no. absurd (true_not_false (sym no));
-                tries = λ no. absurd (true_not_false (sym no));
-                counted = record {
-                  live_is = sym (put-here h.live other false);
-                  last_is = λ no. absurd
-                      (true_not_false (sym no));
-                  taken = λ no. absurd (true_not_false (sym no));
-                };
-                noted = all_none (NoteHolds z b h');
-              }
-              (λ j x ne _ y. y ne);
+        few = k.few;
+        room = k.room;
+        counted = length-set (set views id u) other spent_view ∙ (length-set views id u ∙ k.counted);
+        blank = λ j le lt. let old = k.blank j le lt in record {
+          words = old.words;
+          unplaced = old.unplaced;
+          alive = put-else h.live other j false
+              (λ e. let below : other < h.count = subst (λ (i : ℕ). other < i) k.counted
+              (below_length views other w there) in absurd (omega arith)) ∙ old.alive;
         };
+        untried = k.untried;
+        shared = let s' = k.shared in record { sound_now = s'.sound_now; tied = s'.tied; ranges = s'.ranges; statuses = s'.statuses; formed = s'.formed; described = s'.described; written = s'.written; each_cell = s'.each_cell; installs = s'.installs };
+        each_view = each_moved (set views id u) other spent_view (λ j x. j ≢ other → Known z b h' j x)
+            (Known z b h') first
+            record {
+              own = λ no. absurd (true_not_false (sym no));
+              tries = λ no. absurd (true_not_false (sym no));
+              counted = record {
+                live_is = sym (put-here h.live other false);
+                last_is = λ no. absurd
+                    (true_not_false (sym no));
+                taken = λ no. absurd (true_not_false (sym no));
+              };
+              noted = all_none (NoteHolds z b h');
+            }
+            (λ j x ne _ y. y ne);
       }
 
-  one_view : (v : View) (P : ℕ → View → Type 0) → P 0 v → Each (v ∷ []) P
-  one_view v P here zero u at = subst (P 0) (some-injective v u at) here
-  one_view v P here (suc j) u at = absurd (some-ne-none u (sym at))
+  pub joins : (id : ℕ) (v : View) (other : ℕ) (w : View) → v.live ≡ true → w.live ≡ true → v.rest ≡ w.seat + 1
+      → IsFree w → Joins (Holds sound z) id v other w (joined_by v w) spent_view
+  joins id v other w live alive rest free s held at apart at_other = record {
+    board = held.board;
+    past = record held.past { live = put held.past.live other false };
+    represents = held.represents;
+    kept = join_kept held.board held.past s.views id v other w live alive rest free held.kept at apart at_other;
+  }
 
   -- the words of a board that opens: its words of nodes are plain, and no install was written
   pub record Opens (b : Board) (cells : Cells) (attempt : ℕ → ℕ → Attempt) (words : ℕ → ℕ → ℕ → ℕ) (posted : Bool)
@@ -222,7 +227,7 @@ module _ (sound : ℕ → Cells → Type 0) (z : Size) where
           (sym (o.plain n f)) refl;
       installs = λ q k no. absurd (omega arith);
     };
-    each_view = one_view (new_view z 0 posted notes) (Known z b h) record {
+    each_view = each_one (new_view z 0 posted notes) (Known z b h) record {
       own = λ _. record {
         sized = refl;
         seated =

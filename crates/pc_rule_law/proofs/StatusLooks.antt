@@ -16,12 +16,12 @@ use Rattle.pc_rule_law.specs.Past.{Has, Past, placing_word}
 use Rattle.pc_rule_law.specs.Stages.{IsIdle, IsOpen, IsUndecided, decided_from, decided_by}
 use Rattle.pc_rule_law.specs.Views.{Note, entry, install_word, early, decided_below, held, word_loaded, attempt_word, View, NoteHolds, AllNotes, with_notes}
 use Rattle.pc_rule_law.specs.Rule.{Known, Shared, Holds}
-use Rattle.pc_rule_law.specs.Plays.{Mine, StatusLoaded, LoadedStatus, loads_status}
+use Rattle.pc_rule_law.specs.Plays.{Mine, SameSeat, StatusLoaded, LoadedStatus, loads_status}
 use Rattle.pc_rule_law.proofs.Lists.{all_none, all_more, all_both, has_left, has_right, has_first, has_later}
 use Rattle.pc_rule_law.proofs.Keeping.{noted_more}
 use Rattle.pc_rule_law.proofs.Learning.{learnt, has_learnt, all_learnt, only_if, has_only_if, all_only_if, when, has_if_same, all_if_same, has_when, all_when, later_more}
 use Rattle.pc_rule_law.proofs.Stages.{decided_not_undecided}
-use Rattle.pc_rule_law.proofs.Steps.{SameValues, same_values, looked}
+use Rattle.pc_rule_law.proofs.Steps.{Looks, looked}
 
 -- whether a stage is undecided
 abbrev is_open : Stage → Bool
@@ -179,14 +179,10 @@ module _ (sound : ℕ → Cells → Type 0) (z : Size) (b : Board) (h : Past) (f
       }
 
 module _ (sound : ℕ → Cells → Type 0) (z : Size) where
-  -- a load of the status of p
-  pub load_status : (slots id : ℕ) (me : Mine) (p : ℕ) → me.0.size ≡ z → me.0.live ≡ true
-      → Inside z (at_own p own_status)
-      → Allows (Holds sound z) slots id me (address z (at_own p own_status)) (λ r. r)
-      (loads_status (step slots (address z (at_own p own_status)) 0 0 none) me)
-  load_status slots id me p sized live in_p = looked sound z SameValues same_values slots id me (at_own p own_status)
-      (LoadedStatus me.0) in_p sized
-      (λ b h views k at. let v = me.0 in let st : Status = b.status p in let mine = k.each_view id v at in
+  pub status_looks : (id : ℕ) (v : View) (p : ℕ) → v.live ≡ true → Inside z (at_own p own_status)
+      → Looks sound z id v (at_own p own_status) (λ r w. SameSeat v w × LoadedStatus v r w (at_own p own_status))
+  status_looks id v p live in_p b h views k at =
+      let st : Status = b.status p in let mine = k.each_view id v at in
       let first = decided_below p (decided_by st) in
       let opened = when (is_open st.stage) (learnt (learn_status p st.number) v.notes) in
       let settled = when (is_busy st.stage) (learnt (learn_words p st.number) v.notes) in
@@ -214,4 +210,12 @@ module _ (sound : ℕ → Cells → Type 0) (z : Size) where
                 (status_loaded sound z b h k.few k.shared id v more p in_p.0 live mine refl),
           ),
         ),
-      ))
+      )
+
+  -- a load of the status of p
+  pub load_status : (slots id : ℕ) (me : Mine) (p : ℕ) → me.0.size ≡ z → me.0.live ≡ true
+      → Inside z (at_own p own_status)
+      → Allows (Holds sound z) slots id me (address z (at_own p own_status)) (λ r. r)
+      (loads_status (step slots (address z (at_own p own_status)) 0 0 none) me)
+  load_status slots id me p sized live in_p = looked sound z slots id me (at_own p own_status)
+      (LoadedStatus me.0) in_p sized (status_looks id me.0 p live in_p)

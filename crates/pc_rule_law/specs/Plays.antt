@@ -107,6 +107,10 @@ IsOpeningWord v n f r = (x : ℕ) → kind r ≡ Plain x → x ≡ opening_cells
 
 -- ---- a load of a word of a node
 
+-- what is told whatever cells are sound
+abbrev pub CellFound : View → ℕ → Field → ℕ → View → Type 0
+CellFound v n f r w = IsWord r × (w ≡ with_notes v (found n f (kind r)))
+
 abbrev pub LoadedCell : View → ℕ → View → Place → Type 0
 LoadedCell v r w (at_cell n f) = IsWord r × (w ≡ with_notes v (found n f (kind r))) × IsOpeningWord v n f r
 LoadedCell v r w _ = Unit {0}
@@ -124,6 +128,14 @@ own_notes v n f = placed v.seat v.install.number n f ∷ install_word v.seat v.i
 
 abbrev pub after_place : View → ℕ → Field → View
 after_place v n f = record (with_notes v (own_notes v n f)) { fresh = false }
+
+-- what is told whatever cells are sound
+pub record InstallTried (v : View) (n : ℕ) (f : Field) (old r : ℕ) (w : View) : Type 0 where
+  pub word : IsWord r
+  pub hit : r ≡ old → w ≡ after_place v n f
+  pub miss : r ≢ old → w ≡ with_notes v (found n f (kind r))
+  -- an install that stands there isn't the pass's own
+  pub other : (q k : ℕ) → kind r ≡ Install q k → q ≢ v.seat
 
 pub record InstallPlaced (v : View) (n : ℕ) (f : Field) (old r : ℕ) (w : View) : Type 0 where
   pub word : IsWord r

@@ -1,0 +1,135 @@
+-- A number in place of a reference under the whole rule: then the word is clean of the reference's attempt.
+use Rattle.std.proofs.Common.{◌≡◌, ℕ, eqb, ◌+◌, ◌<◌, ◌≤◌, true, List, ◌∷◌, ◌++◌, None, refl, sym, ap, ◌∙◌, subst, arith}
+use mathlib.Core.Option.{none}
+use prog.Atomic.{either}
+use Rattle.atomic_table.specs.Table.{step, Allows}
+use Rattle.pc_model.specs.declared.cell.Field.{Field}
+use Rattle.pc_model.specs.Forms.{Form, IsSound}
+use Rattle.pc_words.specs.declared.word.WordKind.{WordKind}
+use Rattle.pc_words.specs.declared.word.WordKind.TheVariants.{Plain, Exchange}
+use Rattle.pc_words.specs.Words.{raw, kind, InRange}
+use Rattle.pc_words.proofs.Words.{raw_injective, kind_raw, raw_is_word}
+use Rattle.pc_rule_law.specs.Board.{Size, Board, at_cell, address, Inside}
+use Rattle.pc_rule_law.specs.Past.{Has}
+use Rattle.pc_rule_law.specs.Plays.{SameSeat, found}
+use Rattle.pc_rule_law.specs.Rule.{CellOk}
+use Rattle.pc_rule_law.specs.Stages.{DecidedBelow}
+use Rattle.pc_rule_law.specs.Views.{Note, clean, IsClean, IsAttempt, NoteHolds, AllNotes, with_notes}
+use Rattle.pc_rule_law.proofs.Frames.{only_cell}
+use Rattle.pc_rule_law.proofs.Learning.{later_more}
+use Rattle.pc_rule_law.proofs.Lists.{all_more, has_first, has_later}
+use Rattle.pc_rule_law.proofs.Looks.{found_holds}
+use Rattle.pc_rule_law.proofs.Updates.{put_cell-here}
+use Rattle.pc_rule_law.proofs.WordKinds.{seat_of, number_of}
+use Rattle.pc_protocol.specs.Notes.{verdict}
+use Rattle.pc_protocol.specs.Steps.{refer}
+use Rattle.pc_exchange_law.specs.Changes.{with_word}
+use Rattle.pc_exchange_law.specs.ExchangeConditions.{MayTakeReference}
+use Rattle.pc_exchange_law.specs.Knowing.{WordSeen}
+use Rattle.pc_exchange_law.specs.Ties.{code}
+use Rattle.pc_exchange_law.specs.Wholes.{Whole, WholeHolds}
+use Rattle.pc_exchange_law.specs.WholePlays.{WholeMine, ReferenceTaken, TookReference}
+use Rattle.pc_exchange_law.specs.WholeSteps.{whole_takes_reference}
+use Rattle.pc_exchange_law.proofs.ExchangeSteps.{take_step}
+use Rattle.pc_exchange_law.proofs.Knowing.{decided_on_board}
+use Rattle.pc_exchange_law.proofs.WholeCells.{whole_cell_looks}
+use Rattle.pc_exchange_law.proofs.WholeKeeping.{mine, own_here, known_here, whole_goes}
+use Rattle.pc_exchange_law.proofs.WholeLooks.{plain_there}
+use Rattle.pc_exchange_law.proofs.WholeSteps.{WholeHits, WholeMisses, whole_swapped}
+use Rattle.pc_exchange_law.proofs.WordsSeen.{loads_tell_passes}
+
+module _ (form : Form) (z : Size) where
+  reference_hits : (id : ℕ) (x : Whole) (n : ℕ) (f : Field) (p a v : ℕ) → x.view.live ≡ true → IsAttempt z p a
+      → MayTakeReference x.view x.knows p a n f v → Inside z (at_cell n f)
+      → WholeHits form z id x (at_cell n f) (raw (Exchange p a)) (raw (Plain v))
+      (λ r y. SameSeat x.view y.view × ReferenceTaken x n f (raw (Exchange p a)) (raw (Plain v)) r y)
+  reference_hits id x n f p a v live attempt may in_p b t h late views k at hit =
+      let few : z.seats ≤ 32 = k.kept.few in let lt = attempt.0 in let small : p < 64 = omega arith in
+      let s = k.kept.shared in let own = own_here form z b t h late views k id x at live in
+      let known = known_here form z b t h late views k id x at live in
+      let is : b.cell n f ≡ Exchange p a = raw_injective (b.cell n f) (Exchange p a) (s.ranges n f)
+      ((let below : p < 256 = omega arith in below), attempt.1) hit in
+      let step = take_step form z few id b t t.words h late s k.world x.view own
+      (mine form z b t h late views k id x at live).noted x.knows known p a n f v is small may in
+      let b' : Board = with_word b n f (Plain v) in let h' = refer h n f None in
+      let here : b'.cell n f ≡ Plain v = put_cell-here b.cell n f (Plain v) in
+      let in_range : InRange (Plain v) = subst InRange here (step.0.shared.ranges n f) in
+      let learnt = (loads_tell_passes z.slots z.seats b' t t.words h' late id x.knows step.0.world.scripts step.0.world.rule
+      step.0.world.tied step.0.world.clock step.1).word n f (plain_there form z b' t step.0.shared n f) in
+      let decided : DecidedBelow b'.status p (a + 1) = decided_on_board b t h k.world.tied p a may.stage small
+      (known.told (verdict (code p a) may.stage) may.decided) in
+      let more : List Note = clean p a n f ∷ found n f (Plain v) in
+      let good : AllNotes (NoteHolds z b' t) more = all_more (NoteHolds z b' t) (clean p a n f) (found n f (Plain v))
+      ((decided, subst (IsClean t.placing p a) (sym here) tt), (attempt, in_p))
+      (found_holds (IsSound form) z b' t step.0.shared n f (Plain v) here in_p in_range
+      (subst (CellOk z.seats b'.status t.attempt t.placing t.course (t.plain n f) n f) here (step.0.shared.each_cell n f))) in
+      let y : Whole = record x { view = with_notes x.view more; knows = learnt.0 } in
+      let back : kind (raw (Plain v)) ≡ Plain v = kind_raw (Plain v) in_range in record {
+        view = y;
+        board = b';
+        past = t;
+        history = h';
+        late = late;
+        only = only_cell b n f (Plain v);
+        is = ap raw here;
+        kept = whole_goes form z b t h late views k id x at live b' t h' late y more refl (step.0, learnt.2) (refl, refl, refl, refl) refl
+            (record { sized = own.sized; seated = own.seated; known = own.known; ahead = own.ahead; unplaced = own.unplaced })
+            (λ no. let was = (mine form z b t h late views k id x at live).tries live no in (
+              was.0,
+              record { number = was.1.number; resting = was.1.resting; running = was.1.running; words = was.1.words },
+            ))
+            good;
+        told = (
+          (refl, refl, refl, refl, refl),
+          record {
+            word = raw_is_word (b.cell n f) (s.ranges n f);
+            later = later_more x.view more;
+            aim = refl;
+            cleaned = λ _ q e is_it. let one : Exchange p a ≡ Exchange q e = sym (kind_raw (Exchange p a)
+                ((let below : p < 256 = omega arith in below), attempt.1)) ∙ is_it in
+                subst (λ (i : ℕ × ℕ). Has y.view.notes (clean i.0 i.1 n f))
+                (λ j. (seat_of p a q e one j, number_of p a q e one j))
+                (has_first (clean p a n f) (found n f (Plain v) ++ x.view.notes));
+            becomes = λ _ m has. (
+              more,
+              refl,
+              has_later (clean p a n f) (found n f (Plain v)) m (subst (λ (w : WordKind). Has (found n f w) m) back has),
+            );
+            learnt = λ _. subst (λ (w : WordKind). WordSeen x.knows n f w learnt.0) (here ∙ sym back) learnt.1;
+            miss = λ ne. absurd (ne hit);
+          },
+        );
+      }
+
+  reference_misses : (id : ℕ) (x : Whole) (n : ℕ) (f : Field) (old new : ℕ) → x.view.live ≡ true
+      → Inside z (at_cell n f)
+      → WholeMisses form z id x (at_cell n f) old
+      (λ r y. SameSeat x.view y.view × ReferenceTaken x n f old new r y)
+  reference_misses id x n f old new live in_p b t h late views k at miss =
+      let g = whole_cell_looks form z id x n f live in_p b t h late views k at in (
+        g.0,
+        g.1,
+        (
+          g.2.0,
+          record {
+            word = g.2.1.word;
+            later = g.2.1.later;
+            aim = g.2.1.aim;
+            cleaned = λ e. absurd (miss e);
+            becomes = λ e. absurd (miss e);
+            learnt = λ e. absurd (miss e);
+            miss = λ _. g.2.1;
+          },
+        ),
+      )
+
+  -- the number v in place of the reference to attempt a of pass p in a word of node n
+  pub whole_take_reference : (slots id : ℕ) (me : WholeMine) (n : ℕ) (f : Field) (p a v : ℕ) → me.0.view.size ≡ z
+      → me.0.view.live ≡ true → IsAttempt z p a → MayTakeReference me.0.view me.0.knows p a n f v → Inside z (at_cell n f)
+      → let old : ℕ = raw (Exchange p a) in let new : ℕ = raw (Plain v) in
+      Allows (WholeHolds form z) slots id me (address z (at_cell n f)) (λ i. either (eqb i old) new i)
+      (whole_takes_reference (step slots (address z (at_cell n f)) old new none) me)
+  whole_take_reference slots id me n f p a v sized live attempt may in_p = whole_swapped form z slots id me (at_cell n f)
+      (raw (Exchange p a)) (raw (Plain v)) (TookReference me.0 (raw (Exchange p a)) (raw (Plain v))) in_p sized
+      (reference_hits id me.0 n f p a v live attempt may in_p)
+      (reference_misses id me.0 n f (raw (Exchange p a)) (raw (Plain v)) live in_p)

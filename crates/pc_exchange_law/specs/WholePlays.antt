@@ -1,0 +1,183 @@
+-- What each kind of step tells a pass whose view is whole: what the rule of installs says of its first part, and what it
+-- learns beside.
+use Rattle.std.specs.Prelude.{◌≡◌, ◌≢◌, ℕ, ◌<◌, ◌≤◌, ◌⊎◌, Bool, true, false}
+use Rattle.atomic_table.specs.Table.{Me}
+use Rattle.pc_model.specs.declared.cell.Field.{Field}
+use Rattle.pc_words.specs.declared.word.WordKind.{WordKind}
+use Rattle.pc_words.specs.declared.word.WordKind.TheVariants.{Install, Exchange}
+use Rattle.pc_words.specs.declared.status.Stage.{Stage as StatusStage}
+use Rattle.pc_words.specs.declared.status.Stage.TheVariants.{Idle, Undecided, Succeeded, Withdrawn, Changed as ChangedNode, Locked}
+use Rattle.pc_words.specs.Words.{kind, IsWord}
+use Rattle.pc_words.specs.Statuses.{unpacked, IsStatus}
+use Rattle.pc_rule_law.specs.Board.{own_status, own_install, own_word, Place, at_clock, at_own, at_cell}
+use Rattle.pc_rule_law.specs.Past.{Has}
+use Rattle.pc_rule_law.specs.Views.{Note, clean, View}
+use Rattle.pc_rule_law.specs.Plays.{IsNotedSince, IsLater, IsWell, Told, SameSeat, found, after_store, InstallLoaded, ClockLoaded}
+use Rattle.pc_rule_law.specs.Plays.{DescriptorLoaded as ViewLoaded, StatusLoaded, InstallTried, InstallTaken, after_write, after_publish}
+use Rattle.pc_protocol.specs.Histories.{withdrawn, ended, changed, locked, Stage, absent, undecided, committed, aborted}
+use Rattle.pc_protocol.specs.Notes.{verdict}
+use Rattle.pc_exchange_law.specs.Attempts.{calm, calm_but}
+use Rattle.pc_exchange_law.specs.Ties.{code, last_stamp}
+use Rattle.pc_exchange_law.specs.Passes.{PassKnows}
+use Rattle.pc_exchange_law.specs.Knowing.{DescriptorLoaded, StatusSeen, WordSeen, after_clock, after_own_store}
+use Rattle.pc_exchange_law.specs.Knowing.{after_publication, after_draw, after_refusal, after_decision, after_withdrawal, after_clearing}
+use Rattle.pc_exchange_law.specs.Wholes.{Whole}
+
+abbrev pub WholeMine : Type 0
+WholeMine = Me Bool Whole
+
+-- the pass is where it was and is well, and T is told
+abbrev pub WholeTells : WholeMine → ℕ → (Whole → Place → Type 0) → WholeMine → Type 0
+WholeTells m word T m' = (m'.1 ≡ m.1) × SameSeat m.0.view m'.0.view × Told m.0.view word (T m'.0) × IsWell m'.0.view
+
+-- ---- loads
+
+-- the clock: the pass may draw where it is below the last stamp
+pub record ClockSeen (k : PassKnows) (r : ℕ) (k' : PassKnows) : Type 0 where
+  pub noted : k' ≡ after_clock k r k'.ready
+  pub early : r < last_stamp → k'.ready ≡ true
+  pub late : last_stamp ≤ r → k'.ready ≡ false
+
+abbrev pub SeesClock : Whole → ℕ → Whole → Place → Type 0
+SeesClock x r y at_clock = ClockLoaded x.view r y.view × ClockSeen x.knows r y.knows × (y.aim ≡ x.aim)
+SeesClock x r y _ = Unit {0}
+
+-- a word of a descriptor
+abbrev pub SeesWord : Whole → ℕ → Whole → Place → Type 0
+SeesWord x r y (at_own p (own_word place)) = ViewLoaded x.view p place r y.view × DescriptorLoaded x.knows p place r y.knows
+    × (y.aim ≡ x.aim)
+SeesWord x r y _ = Unit {0}
+
+-- a status, at which the pass then aims
+abbrev pub SeesStatus : Whole → ℕ → Whole → Place → Type 0
+SeesStatus x r y (at_own p own_status) = IsStatus r × StatusLoaded x.view p (unpacked r) y.view
+    × StatusSeen x.knows p (unpacked r) y.knows × (y.aim ≡ (p, (unpacked r).number))
+SeesStatus x r y _ = Unit {0}
+
+-- a word of an install's descriptor, which tells nothing beside
+abbrev pub SeesInstall : Whole → ℕ → Whole → Place → Type 0
+SeesInstall x r y (at_own q (own_install place)) = InstallLoaded x.view q place r y.view × (y.knows ≡ x.knows) × (y.aim ≡ x.aim)
+SeesInstall x r y _ = Unit {0}
+
+-- no early install of attempt a of pass p, which is decided, stands in a word in which c is found: by what was noted
+-- before, or since the verdict is known and c is no install
+abbrev pub IsFoundCalm : PassKnows → ℕ → ℕ → ℕ → Field → WordKind → Type 0
+IsFoundCalm k p a n f c = Has k.noted (calm p a n f)
+    ⊎ (((q : ℕ) × (i : ℕ) × Has k.noted (calm_but p a n f q i) × (c ≢ Install q i))
+    ⊎ ((st : Stage) × Has k.told (verdict (code p a) st) × ((q i : ℕ) → c ≢ Install q i)))
+
+-- a word of a node
+pub record CellSeen (x : Whole) (n : ℕ) (f : Field) (r : ℕ) (y : Whole) : Type 0 where
+  pub word : IsWord r
+  pub later : IsLater x.view y.view
+  pub notes : (m : Note) → Has (found n f (kind r)) m → IsNotedSince x.view y.view m
+  pub seen : WordSeen x.knows n f (kind r) y.knows
+  pub aim : y.aim ≡ x.aim
+  -- it is clean of the own attempt, where it is calm and doesn't hold its reference
+  pub cleans : kind r ≢ Exchange x.view.seat x.knows.own.number
+      → IsFoundCalm x.knows x.view.seat x.knows.own.number n f (kind r)
+      → Has y.view.notes (clean x.view.seat x.knows.own.number n f)
+
+abbrev pub SeesCell : Whole → ℕ → Whole → Place → Type 0
+SeesCell x r y (at_cell n f) = CellSeen x n f r y
+SeesCell x r y _ = Unit {0}
+
+-- ---- stores to the own words
+
+-- a word of the own install's descriptor
+abbrev pub StoredInstall : Whole → ℕ → Whole → Place → Type 0
+StoredInstall x r y (at_own i (own_install place)) = i ≡ x.view.seat → y ≡ record x { view = after_store x.view place r }
+StoredInstall x r y _ = Unit {0}
+
+-- a word of the own descriptor
+abbrev pub StoredWord : Whole → ℕ → Whole → Place → Type 0
+StoredWord x r y (at_own i (own_word place)) = i ≡ x.view.seat
+    → y ≡ record x { view = after_write x.view place r; knows = after_own_store x.knows place r }
+StoredWord x r y _ = Unit {0}
+
+-- the own next attempt is published
+abbrev pub HasPublished : Whole → Whole → Place → Type 0
+HasPublished x y (at_own i own_status) = i ≡ x.view.seat
+    → y ≡ record x { view = after_publish x.view; knows = after_publication x.knows }
+HasPublished x y _ = Unit {0}
+
+-- the own attempt is cleared
+abbrev pub after_clear : View → View
+after_clear v = record v { attempt = record v.attempt { published = false } }
+
+abbrev pub HasCleared : Whole → Whole → Place → Type 0
+HasCleared x y (at_own i own_status) = i ≡ x.view.seat
+    → y ≡ record x { view = after_clear x.view; knows = after_clearing x.knows }
+HasCleared x y _ = Unit {0}
+
+-- ---- a draw, which gives the stamp that is found, for the attempt at which the pass aims; from the last stamp on it is
+-- refused
+
+pub record HasDrawn (x : Whole) (r : ℕ) (y : Whole) : Type 0 where
+  pub drawn : r < last_stamp → y ≡ record x { knows = after_draw x.knows (code x.aim.0 x.aim.1) r }
+  pub refused : last_stamp ≤ r → y ≡ record x { knows = after_refusal x.knows r }
+
+abbrev pub Draws : Whole → ℕ → Whole → Place → Type 0
+Draws x r y at_clock = HasDrawn x r y
+Draws x r y _ = Unit {0}
+
+-- ---- decisions, by a compare_exchange of a status: where it hits, the pass knows the verdict; where it misses, it is a
+-- load of the status
+
+pub record StatusTried (x : Whole) (p old r : ℕ) (then : Whole → Type 0) (y : Whole) : Type 0 where
+  pub hit : r ≡ old → then y
+  pub miss : r ≢ old → SeesStatus x r y (at_own p own_status)
+
+-- what a decision makes of the attempt, by its new status; one that isn't the pass's own to withdraw fails at the
+-- clock's end alone
+abbrev pub verdict_by : StatusStage → Stage
+verdict_by Idle = absent
+verdict_by Undecided = undecided
+verdict_by (Succeeded s) = committed s
+verdict_by Withdrawn = aborted ended
+verdict_by (ChangedNode n) = aborted (changed n)
+verdict_by (Locked n q) = aborted (locked n q)
+
+-- the attempt of this status took effect, or failed
+abbrev pub HasDecided : Whole → ℕ → ℕ → ℕ → Whole → Place → Type 0
+HasDecided x old new r y (at_own p own_status) = StatusTried x p old r
+    (λ y'. y' ≡ record x { knows = after_decision x.knows (code p (unpacked old).number) (verdict_by (unpacked new).stage) }) y
+HasDecided x old new r y _ = Unit {0}
+
+-- the pass withdrew its own
+abbrev pub HasWithdrawn : Whole → ℕ → ℕ → Whole → Place → Type 0
+HasWithdrawn x old r y (at_own p own_status) = StatusTried x p old r
+    (λ y'. y' ≡ record x { knows = after_withdrawal x.knows (code p x.knows.own.number) (aborted withdrawn) }) y
+HasWithdrawn x old r y _ = Unit {0}
+
+-- ---- a compare_exchange on a word of a node
+
+-- what it tells beside: what it found; and where it hits, what stands there then
+pub record WordSwapped (x : Whole) (n : ℕ) (f : Field) (old new r : ℕ) (y : Whole) : Type 0 where
+  pub hit : r ≡ old → (between : PassKnows) × WordSeen x.knows n f (kind r) between × WordSeen between n f (kind new) y.knows
+  pub miss : r ≢ old → WordSeen x.knows n f (kind r) y.knows
+  pub aim : y.aim ≡ x.aim
+
+-- the own install is placed
+abbrev pub WholePlaced : Whole → ℕ → ℕ → ℕ → Whole → Place → Type 0
+WholePlaced x old new r y (at_cell n f) = InstallTried x.view n f old r y.view × WordSwapped x n f old new r y
+WholePlaced x old new r y _ = Unit {0}
+
+-- an install is taken away
+abbrev pub WholeTaken : Whole → ℕ → ℕ → ℕ → Whole → Place → Type 0
+WholeTaken x old new r y (at_cell n f) = InstallTaken x.view n f old new r y.view × WordSwapped x n f old new r y
+WholeTaken x old new r y _ = Unit {0}
+
+-- a reference is taken away: then the word is clean of its attempt
+pub record ReferenceTaken (x : Whole) (n : ℕ) (f : Field) (old new r : ℕ) (y : Whole) : Type 0 where
+  pub word : IsWord r
+  pub later : IsLater x.view y.view
+  pub aim : y.aim ≡ x.aim
+  pub cleaned : r ≡ old → (p a : ℕ) → kind old ≡ Exchange p a → Has y.view.notes (clean p a n f)
+  pub becomes : r ≡ old → (m : Note) → Has (found n f (kind new)) m → IsNotedSince x.view y.view m
+  pub learnt : r ≡ old → WordSeen x.knows n f (kind new) y.knows
+  pub miss : r ≢ old → CellSeen x n f r y
+
+abbrev pub TookReference : Whole → ℕ → ℕ → ℕ → Whole → Place → Type 0
+TookReference x old new r y (at_cell n f) = ReferenceTaken x n f old new r y
+TookReference x old new r y _ = Unit {0}

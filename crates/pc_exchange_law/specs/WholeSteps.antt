@@ -1,0 +1,56 @@
+-- What each kind of step tells a pass whose view is whole, of the step, the pass before, the number found, or stored, and
+-- the pass after.
+use Rattle.std.specs.Prelude.{ℕ, Bool}
+use Rattle.atomic_table.specs.Table.{Step}
+use Rattle.pc_exchange_law.specs.WholePlays.{WholeMine, WholeTells, SeesClock, SeesWord, SeesStatus, SeesInstall, SeesCell}
+use Rattle.pc_exchange_law.specs.WholePlays.{StoredInstall, StoredWord, HasPublished, HasCleared, Draws, HasDecided, HasWithdrawn}
+use Rattle.pc_exchange_law.specs.WholePlays.{WholePlaced, WholeTaken, TookReference}
+
+-- loads
+abbrev pub whole_loads_clock : Step Bool → WholeMine → ℕ → WholeMine → Type 0
+whole_loads_clock st m r m' = WholeTells m st.word (SeesClock m.0 r) m'
+
+abbrev pub whole_loads_word : Step Bool → WholeMine → ℕ → WholeMine → Type 0
+whole_loads_word st m r m' = WholeTells m st.word (SeesWord m.0 r) m'
+
+abbrev pub whole_loads_status : Step Bool → WholeMine → ℕ → WholeMine → Type 0
+whole_loads_status st m r m' = WholeTells m st.word (SeesStatus m.0 r) m'
+
+abbrev pub whole_loads_install : Step Bool → WholeMine → ℕ → WholeMine → Type 0
+whole_loads_install st m r m' = WholeTells m st.word (SeesInstall m.0 r) m'
+
+abbrev pub whole_loads_cell : Step Bool → WholeMine → ℕ → WholeMine → Type 0
+whole_loads_cell st m r m' = WholeTells m st.word (SeesCell m.0 r) m'
+
+-- stores to the own words
+abbrev pub whole_stores_install : Step Bool → WholeMine → ℕ → WholeMine → Type 0
+whole_stores_install st m r m' = WholeTells m st.word (StoredInstall m.0 st.first) m'
+
+abbrev pub whole_stores_word : Step Bool → WholeMine → ℕ → WholeMine → Type 0
+whole_stores_word st m r m' = WholeTells m st.word (StoredWord m.0 st.first) m'
+
+abbrev pub whole_publishes : Step Bool → WholeMine → ℕ → WholeMine → Type 0
+whole_publishes st m r m' = WholeTells m st.word (HasPublished m.0) m'
+
+abbrev pub whole_clears : Step Bool → WholeMine → ℕ → WholeMine → Type 0
+whole_clears st m r m' = WholeTells m st.word (HasCleared m.0) m'
+
+-- a draw, and decisions
+abbrev pub whole_draws : Step Bool → WholeMine → ℕ → WholeMine → Type 0
+whole_draws st m r m' = WholeTells m st.word (Draws m.0 r) m'
+
+abbrev pub whole_decides : Step Bool → WholeMine → ℕ → WholeMine → Type 0
+whole_decides st m r m' = WholeTells m st.word (HasDecided m.0 st.first st.second r) m'
+
+abbrev pub whole_withdraws : Step Bool → WholeMine → ℕ → WholeMine → Type 0
+whole_withdraws st m r m' = WholeTells m st.word (HasWithdrawn m.0 st.first r) m'
+
+-- steps on words of nodes
+abbrev pub whole_places : Step Bool → WholeMine → ℕ → WholeMine → Type 0
+whole_places st m r m' = WholeTells m st.word (WholePlaced m.0 st.first st.second r) m'
+
+abbrev pub whole_takes : Step Bool → WholeMine → ℕ → WholeMine → Type 0
+whole_takes st m r m' = WholeTells m st.word (WholeTaken m.0 st.first st.second r) m'
+
+abbrev pub whole_takes_reference : Step Bool → WholeMine → ℕ → WholeMine → Type 0
+whole_takes_reference st m r m' = WholeTells m st.word (TookReference m.0 st.first st.second r) m'

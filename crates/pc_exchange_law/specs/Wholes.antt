@@ -1,0 +1,50 @@
+-- The whole rule of a board on which passes publish exchanges: the rule of installs, the world, and what each pass knows
+-- beside its view.
+use Rattle.std.specs.Prelude.{◌≡◌, ℕ, ◌<◌, ◌≤◌, Bool, true, false, List, [], map}
+use Rattle.atomic_table.specs.Table.{State}
+use Rattle.pc_model.specs.declared.cell.Field.{Field}
+use Rattle.pc_model.specs.Forms.{Form, IsSound}
+use Rattle.pc_model.specs.Linked.{opening_cells}
+use Rattle.pc_rule_law.specs.Board.{Size, Board, Represents}
+use Rattle.pc_rule_law.specs.Past.{Past}
+use Rattle.pc_rule_law.specs.Views.{View}
+use Rattle.pc_rule_law.specs.Rule.{Each, Kept}
+use Rattle.pc_protocol.specs.Histories.{History}
+use Rattle.pc_exchange_law.specs.AttemptSteps.{first_attempt}
+use Rattle.pc_exchange_law.specs.Passes.{PassKnows, IsKnown}
+use Rattle.pc_exchange_law.specs.Worlds.{World}
+
+-- the view of a pass: what the rule of installs speaks of; what the pass knows beside it; and the attempt whose status it
+-- loaded last, for which a draw is, as a draw has no operand that says so. The rule says nothing of that
+pub record Whole : Type 0 where
+  pub view : View
+  pub knows : PassKnows
+  pub aim : ℕ × ℕ
+
+abbrev pub views_of : List Whole → List View
+views_of views = map (λ (x : Whole). x.view) views
+
+-- a pass that knows nothing yet
+abbrev pub knows_nothing : ℕ → PassKnows
+knows_nothing start = record { own = first_attempt start; ready = false; noted = []; told = [] }
+
+module _ (form : Form) (z : Size) where
+  -- it is so, for every pass that isn't joined to another, and for each that isn't made yet. The words of the past's
+  -- attempts are those that the world speaks of
+  pub record WholeKept (b : Board) (t : Past) (h : History) (late : ℕ → Bool) (views : List Whole) : Type 0 where
+    pub kept : Kept (IsSound form) z b t (views_of views)
+    pub world : World form z b t t.words h late
+    pub known : Each views (λ j x. x.view.live ≡ true → IsKnown b t t.words h late j x.knows)
+    pub unmade : (j : ℕ) → t.count ≤ j → j < z.seats → IsKnown b t t.words h late j (knows_nothing z.starts.attempt)
+    -- the run begins with the cells of the opening, at which passes were given no exchange
+    pub opened : (n : ℕ) (f : Field) → h.opening n f ≡ opening_cells z.starts.version n f
+    pub none_given : t.posted ≡ false
+
+  -- the whole rule: the table's words are those of a board, with a past, a history and late seats, that keep it
+  pub record WholeHolds (s : State Bool Whole) : Type 0 where
+    pub board : Board
+    pub past : Past
+    pub history : History
+    pub late : ℕ → Bool
+    pub represents : Represents z s.words board
+    pub kept : WholeKept board past history late s.views
