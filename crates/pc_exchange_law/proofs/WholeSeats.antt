@@ -4,7 +4,7 @@ use mathlib.Core.Option.{some}
 use lib.ListN.{get_elem?}
 use Rattle.std.proofs.lemmas.List.{length-map}
 use Rattle.atomic_table.specs.Table.{Splits, Joins}
-use Rattle.atomic_table.proofs.Lists.{at_map}
+use Rattle.atomic_table.proofs.Lists.{at_map, set_else}
 use Rattle.pc_model.specs.declared.cell.Field.{Field}
 use Rattle.pc_model.specs.Forms.{Form, IsSound}
 use Rattle.pc_rule_law.specs.Board.{Size, Board, put}
@@ -13,9 +13,11 @@ use Rattle.pc_rule_law.specs.Past.{Past}
 use Rattle.pc_rule_law.specs.Rule.{Each, Kept, Shared}
 use Rattle.pc_rule_law.specs.Seats.{maker, made_by, joined_by, spent_view}
 use Rattle.pc_rule_law.specs.Views.{View}
-use Rattle.pc_rule_law.proofs.Lists.{each_moved, each_snoc, below_length}
+use Rattle.pc_rule_law.proofs.Lists.{all_both, each_moved, each_snoc, below_length}
 use Rattle.pc_rule_law.proofs.Seats.{split_kept, join_kept}
 use Rattle.pc_protocol.specs.Histories.{History}
+use Rattle.pc_protocol.specs.Notes.{IsTrueNote}
+use Rattle.pc_exchange_law.specs.Attempts.{IsTrueAttemptNote}
 use Rattle.pc_exchange_law.specs.ExchangeLaws.{Comes}
 use Rattle.pc_exchange_law.specs.Passes.{PassKnows, IsKnown}
 use Rattle.pc_exchange_law.specs.WholeSeats.{whole_maker, whole_made, whole_joined, whole_spent}
@@ -98,8 +100,19 @@ module _ (form : Form) (z : Size) (b : Board) (t : Past) (h : History) (late : �
       let enough : t.count ≤ z.seats = k.kept.room in
       let still : (j : ℕ) (w : PassKnows) → j < 64 → j ≢ id → IsKnown b t t.words h late j w → IsKnown b t' t'.words h late j w =
       λ j w small ne was. known_after form z id b t t.words h late b t' t'.words h late x.knows c j w small ne was in
+      let there_y : get_elem? views other ≡ some y = sym (set_else views id other u apart) ∙ at_other in
+      let other_below : other < t.count = subst (λ (n : ℕ). other < n) (sym (length-map views (λ (w : Whole). w.view)) ∙ k.kept.counted)
+      (below_length views other y there_y) in
+      let its : IsKnown b t' t'.words h late other y.knows = still other y.knows
+      (let some : z.seats ≤ 32 = few in omega arith) apart (k.known other y there_y alive) in
+      let merged : IsKnown b t' t'.words h late id u.knows = record {
+        own = c.known.own;
+        ready = c.known.ready;
+        noted = all_both (IsTrueAttemptNote b t' t'.words) y.knows.noted x.knows.noted its.noted c.known.noted;
+        told = all_both (IsTrueNote h) y.knows.told x.knows.told its.told c.known.told;
+      } in
       let first : Each (set views id u) P = each_moved views id u
-      (λ j w. w.view.live ≡ true → IsKnown b t t.words h late j w.knows) P k.known (λ _. c.known)
+      (λ j w. w.view.live ≡ true → IsKnown b t t.words h late j w.knows) P k.known (λ _. merged)
       (λ j w ne at_j was lives. still j w.knows
       (let below : j < t.count = subst (λ (n : ℕ). j < n) (sym (length-map views (λ (w : Whole). w.view)) ∙ k.kept.counted) (below_length views j w at_j) in
       let some : z.seats ≤ 32 = few in omega arith) ne (was lives)) in
