@@ -5,7 +5,7 @@ use Rattle.std.proofs.Common.{◌≡◌, ℕ, zero, suc, ◌+◌, ◌*◌, ◌<�
 use Rattle.pc_model.specs.declared.cell.Field.{Field}
 use Rattle.pc_model.specs.declared.cell.Field.TheVariants.{Version}
 use Rattle.pc_words.specs.declared.word.WordKind.TheVariants.{Plain, Exchange}
-use Rattle.pc_words.specs.declared.status.Stage.TheVariants.{Idle, Succeeded}
+use Rattle.pc_words.specs.declared.status.Stage.TheVariants.{Idle, Succeeded, Withdrawn}
 use Rattle.pc_rule_law.specs.Board.{Board, place_number}
 use Rattle.pc_rule_law.specs.Past.{Has, Past}
 use Rattle.pc_rule_law.specs.Stages.{DecidedBelow}
@@ -13,14 +13,14 @@ use Rattle.pc_rule_law.specs.Views.{held, clean, View, NoteHolds, AllNotes}
 use Rattle.pc_rule_law.proofs.Lists.{all_one, all_none}
 use Rattle.pc_rule_law.proofs.WordKinds.{plain_not_exchange, seat_of, number_of}
 use Rattle.pc_rule_law.proofs.WordMoves.{WordMoves}
-use Rattle.pc_protocol.specs.Histories.{for_exchange, committed, History}
-use Rattle.pc_protocol.specs.Steps.{draw, commit, refer}
+use Rattle.pc_protocol.specs.Histories.{for_exchange, withdrawn, committed, aborted, History}
+use Rattle.pc_protocol.specs.Steps.{draw, commit, abort, refer}
 use Rattle.pc_exchange_law.specs.Ties.{exchange_of}
 use Rattle.pc_exchange_law.specs.Changes.{with_word, with_status, with_next_stamp, with_values}
 use Rattle.pc_exchange_law.specs.TieLaws.{run_up_to}
 use Rattle.pc_exchange_law.specs.Attempts.{KnowsWord, KnowsEntry}
 use Rattle.pc_exchange_law.specs.Passes.{PassKnows}
-use Rattle.pc_exchange_law.specs.Knowing.{after_draw, after_decision, after_clearing}
+use Rattle.pc_exchange_law.specs.Knowing.{after_draw, after_decision, after_withdrawal, after_clearing}
 use Rattle.pc_exchange_law.specs.ExchangeLaws.{Comes}
 use Rattle.pc_exchange_law.proofs.ExchangeLaws.{comes}
 use Rattle.pc_exchange_law.proofs.KnowingSteps.{unchanged_known}
@@ -59,6 +59,12 @@ step5 =
       unchanged_known any_form two 0 b4 t4 w4 h4 none_late k4 step4.known (omega arith) b5 t4 h5 (λ p. refl)
           (λ p place. refl) (λ x. refl) goes,
     )
+
+-- ---- here it might be withdrawn as well
+
+step6' : Comes any_form two 0 b5 t4 w4 h5 none_late (with_status b5 0 (record { number = 4; stage = Withdrawn })) t4 w4
+    (abort h5 256 withdrawn) none_late (after_withdrawal k4 256 (aborted withdrawn))
+step6' = (steps b4 t4 w4 h4 none_late b5 t4 w4 h5 none_late k4 v0 step5 own0 (all_none (NoteHolds two b5 t4))).withdraws tt
 
 -- ---- a stamp is drawn: each word is known, and noted as held
 

@@ -27,9 +27,9 @@ use Rattle.pc_exchange_law.specs.ExchangeConditions.{MayTakeReference, MayClear}
 use Rattle.pc_exchange_law.specs.Worlds.{World}
 
 module _ (form : Form) (z : Size) (id : ℕ) (b : Board) (t : Past) (w : Scripts) (h : History) (late : ℕ → Bool) where
-  -- A step of the pass at seat id comes to this: the topics of the board's rule and the world hold afterwards, no
-  -- note is lost and nothing of attempts is taken back, what others have of their own is left to them, and the pass
-  -- knows this.
+  -- A step of the pass at seat id comes to this: the topics of the board's rule and the world hold afterwards, no note
+  -- of the protocol is lost and nothing of attempts is taken back, what others have of their own attempts is left to
+  -- them, and the pass knows this.
   pub record Comes (b' : Board) (t' : Past) (w' : Scripts) (h' : History) (late' : ℕ → Bool) (k' : PassKnows)
       : Type 0 where
     pub shared : Shared (IsSound form) z b' t'

@@ -116,10 +116,11 @@ pub fn loads_tell_passes()
 {}
 
 /// Each step of an exchange, from what the pass that makes it knows: the rule of the board and the world hold
-/// afterwards, with cells that are sound for the shape, no note is lost, what others have of their own stays, and it
-/// is so what the pass knows then. This holds of a store to the own descriptor, a publication, a draw, a refused
-/// draw, a success, a failure, a withdrawal, a number in place of a reference, and a clearing. The steps of an
-/// install keep the world too.
+/// afterwards, with cells that are sound for the shape, no note of the protocol or of attempts is lost, what others
+/// have of their own attempts stays, and it is so what the pass knows then. This holds of a store to the own
+/// descriptor, a publication, a draw, a refused draw, a success, a failure, a withdrawal, a number in place of a
+/// reference, and a clearing. The steps of an install keep the world too, where the topics of the board's rule hold
+/// afterwards.
 pub fn exchange_steps_go_on<H: Shape>()
     ensures { (z : Size) (id : ℕ) (b : Board) (t : Past) (w : Scripts) (h : History) (late : ℕ → Bool) (v : View)
         (k : PassKnows) → z.seats ≤ 32 → Shared (IsSound H.form) z b t → World H.form z b t w h late
