@@ -78,7 +78,7 @@ module _ (form : Form) (z : Size) (few : z.seats ≤ 32) (id : ℕ) (b : Board) 
       let b' = with_status b id (record { number = a; stage = Undecided }) in
       let t' = with_values t t.cells t.plain (put2 t.attempt id a x) (put2 t.words id a (b.word id)) in
       let w' = with_script w id a (b.word id) in let h' = publish h (code id a) (exchange_of x) c in
-      Goes form z id b t w h late b' t' w' h' late × IsKnown b' t' w' h' late id (after_publication k)
+      Goes form z id b t w h late b' t' w' h' late × IsKnown b' t' w' h' late id (after_publication k (code id a) (exchange_of x) c)
   publish_step x c keys may =
       let a : ℕ = (b.status id).number + 1 in
       let idle = known.own.resting may.rests in

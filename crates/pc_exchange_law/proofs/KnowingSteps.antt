@@ -11,8 +11,8 @@ use Rattle.pc_rule_law.specs.Board.{Size, Board}
 use Rattle.pc_rule_law.specs.Past.{Past}
 use Rattle.pc_rule_law.specs.Stages.{IsIdle}
 use Rattle.pc_rule_law.proofs.Lists.{all_one, none_has}
-use Rattle.pc_protocol.specs.Histories.{for_exchange, for_read, withdrawn, Stage, aborted, History, IsDecided}
-use Rattle.pc_protocol.specs.Notes.{clock_was, drew, verdict, IsTrueNote}
+use Rattle.pc_protocol.specs.Histories.{for_exchange, for_read, withdrawn, Stage, undecided, aborted, History, IsPublished, IsDecided}
+use Rattle.pc_protocol.specs.Notes.{clock_was, published, drew, verdict, IsTrueNote}
 use Rattle.pc_protocol.specs.Steps.{draw, publish}
 use Rattle.pc_exchange_law.specs.Ties.{code}
 use Rattle.pc_exchange_law.specs.Changes.{with_status, with_next_stamp, at_stage}
@@ -70,12 +70,21 @@ module _ (form : Form) (z : Size) (id : ℕ) (b : Board) (t : Past) (w : Scripts
   pub publication_known : (b' : Board) (t' : Past) (w' : Scripts) (e : PathExchange) (c : ℕ)
       → b' ≡ with_status b id (record { number = (b.status id).number + 1; stage = Undecided })
       → Goes form z id b t w h late b' t' w' (publish h (code id ((b.status id).number + 1)) e c) late
-      → IsKnown b' t' w' (publish h (code id ((b.status id).number + 1)) e c) late id (after_publication k)
-  publication_known b' t' w' e c is goes = goes_on b' t' w' (publish h (code id ((b.status id).number + 1)) e c) late goes
-      (record k.own { number = k.own.number + 1; busy = true; withdrew = false }) k.ready
-      (subst (λ (u : Board). OwnsAttempt u (publish h (code id ((b.status id).number + 1)) e c) id
-      (record k.own { number = k.own.number + 1; busy = true; withdrew = false })) (sym is)
-      ((own_steps_are_known id b h k.own known.own).publishes e c)) known.ready
+      → let y : ℕ = code id ((b.status id).number + 1) in
+      IsKnown b' t' w' (publish h y e c) late id (after_publication k y e c)
+  publication_known b' t' w' e c is goes =
+      let y : ℕ = code id ((b.status id).number + 1) in let h' : History = publish h y e c in
+      let own : OwnAttempt = record k.own { number = k.own.number + 1; busy = true; withdrew = false } in
+      let before = goes_on b' t' w' h' late goes own k.ready
+      (subst (λ (u : Board). OwnsAttempt u h' id own) (sym is) ((own_steps_are_known id b h k.own known.own).publishes e c))
+      known.ready in
+      more_known 0 b' t' w' h' late id (record k { own = own }) before [] (published y e c ∷ [])
+      (λ n has. absurd (none_has n has))
+      (all_one (IsTrueNote h') (published y e c) (
+        subst IsPublished (sym (updated_here h.stage y undecided y refl)) tt,
+        updated_here h.op y e y refl,
+        updated_here h.published_at y c y refl,
+      ))
 
   -- a draw, and one that is refused
   drawn_own : (x : ℕ) → OwnsAttempt (with_next_stamp b) (draw h (for_exchange x)) id k.own

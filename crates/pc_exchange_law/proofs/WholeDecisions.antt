@@ -1,6 +1,6 @@
 -- Decisions under the whole rule: an attempt whose status is found undecided takes effect, fails, or is withdrawn by its
 -- own pass. Where another status is found, the step is a load of it.
-use Rattle.std.proofs.Common.{◌≡◌, ℕ, eqb, ◌^◌, ◌<◌, ◌≤◌, Bool, true, List, [], refl, sym, ap, ◌∙◌, subst, arith}
+use Rattle.std.proofs.Common.{◌≡◌, ℕ, eqb, ◌+◌, ◌^◌, ◌<◌, ◌≤◌, Bool, true, List, [], ◌∷◌, refl, sym, ap, ◌∙◌, subst, arith}
 use mathlib.Core.Option.{some, none}
 use lib.ListN.{get_elem?}
 use prog.Atomic.{either}
@@ -13,13 +13,13 @@ use Rattle.pc_words.specs.Statuses.{packed, unpacked, StageInRange}
 use Rattle.pc_words.proofs.Statuses.{packed_injective, unpacked_packed}
 use Rattle.pc_rule_law.specs.Board.{Size, Board, own_status, at_own, address, Inside}
 use Rattle.pc_rule_law.specs.Past.{Past}
-use Rattle.pc_rule_law.specs.Stages.{IsIdle, IsOpen}
-use Rattle.pc_rule_law.specs.Views.{View, NoteHolds, IsAttempt}
+use Rattle.pc_rule_law.specs.Stages.{IsIdle, IsOpen, DecidedBelow}
+use Rattle.pc_rule_law.specs.Views.{decided_below, View, NoteHolds, IsAttempt}
 use Rattle.pc_rule_law.specs.Plays.{SameSeat}
 use Rattle.pc_rule_law.specs.Rule.{Own}
 use Rattle.pc_rule_law.proofs.Frames.{only_status}
 use Rattle.pc_rule_law.proofs.Keeping.{LeavesTries, tries_stay}
-use Rattle.pc_rule_law.proofs.Lists.{all_none}
+use Rattle.pc_rule_law.proofs.Lists.{all_one}
 use Rattle.pc_rule_law.proofs.Stages.{open_not_idle}
 use Rattle.pc_rule_law.proofs.Updates.{put-here, at_put}
 use Rattle.pc_protocol.specs.Histories.{Cause, withdrawn, ended, changed, locked, Stage, committed, aborted, History}
@@ -30,7 +30,7 @@ use Rattle.pc_exchange_law.specs.Knowing.{after_decision, after_withdrawal}
 use Rattle.pc_exchange_law.specs.Passes.{PassKnows, IsKnown}
 use Rattle.pc_exchange_law.specs.Ties.{code}
 use Rattle.pc_exchange_law.specs.Wholes.{Whole, WholeKept, WholeHolds}
-use Rattle.pc_exchange_law.specs.WholePlays.{WholeMine, StatusTried, verdict_by, HasDecided, HasWithdrawn}
+use Rattle.pc_exchange_law.specs.WholePlays.{WholeMine, StatusTried, after_decided, verdict_by, HasDecided, HasWithdrawn}
 use Rattle.pc_exchange_law.specs.WholeSteps.{whole_decides, whole_withdraws}
 use Rattle.pc_exchange_law.proofs.ExchangeSteps.{success_step, failure_step, withdraw_step}
 use Rattle.pc_exchange_law.proofs.WholeKeeping.{mine, own_here, known_here, whole_goes}
@@ -49,13 +49,20 @@ decided_status a stage = record { number = a; stage = stage }
 -- attempt a of pass p is decided so
 abbrev DecidedAs : Whole → ℕ → ℕ → Stage → ℕ → ℕ → Whole → Type 0
 DecidedAs x p a stage old r y = StatusTried x p old r
-    (λ y'. y' ≡ record x { knows = after_decision x.knows (code p a) stage }) y
+    (λ y'. y' ≡ record x { view = after_decided x.view p a; knows = after_decision x.knows (code p a) stage }) y
 
 -- what the operands say of it
 by_operands : (x : Whole) (p a old new r : ℕ) (stage : Stage) (y : Whole) → (unpacked old).number ≡ a
     → verdict_by (unpacked new).stage ≡ stage → DecidedAs x p a stage old r y → HasDecided x old new r y (at_own p own_status)
 by_operands x p a old new r stage y number is told = subst
     (λ (i : ℕ × Stage). DecidedAs x p i.0 i.1 old r y) (λ j. (sym number j, sym is j)) told
+
+-- an attempt that failed is decided
+is_closed : (cause : Cause) → IsOpen (stage_by cause) → ⊥
+is_closed withdrawn o = o
+is_closed ended o = o
+is_closed (changed n) o = o
+is_closed (locked n q) o = o
 
 -- a decision changes no number, no descriptor, and which pass is idle
 leaves_tries : (b : Board) (p : ℕ) (stage : StatusStage) → IsOpen (b.status p).stage → (IsIdle stage → ⊥) → (j : ℕ)
@@ -73,28 +80,36 @@ module _ (form : Form) (z : Size) where
   -- an attempt that isn't decided, whose status has this number, is decided, and the pass knows this
   decided : (id : ℕ) (x : Whole) → x.view.live ≡ true → (b : Board) (t : Past) (h : History) (late : ℕ → Bool)
       (views : List Whole) (k : WholeKept form z b t h late views) (at : get_elem? views id ≡ some x) (p : ℕ) (stage : StatusStage)
-      → IsOpen (b.status p).stage → (IsIdle stage → ⊥) → (t' : Past) → t'.course ≡ t.course → t'.posted ≡ t.posted
+      → p < z.seats → IsOpen (b.status p).stage → (IsIdle stage → ⊥) → (IsOpen stage → ⊥) → (t' : Past) → t'.course ≡ t.course → t'.posted ≡ t.posted
       → (h' : History) (k' : PassKnows) (then : Whole → Type 0) → h'.opening ≡ h.opening
       → Goes form z id b t t.words h late (with_status b p (at_stage b p stage)) t' t'.words h' late
       × IsKnown (with_status b p (at_stage b p stage)) t' t'.words h' late id k'
-      → then (record x { knows = k' })
+      → then (record x { view = after_decided x.view p (b.status p).number; knows = k' })
       → WholeGoes form z b views id (at_own p own_status) (packed (at_stage b p stage)) then
-  decided id x live b t h late views k at p stage pending busy t' course posted h' k' then opening step told =
+  decided id x live b t h late views k at p stage lt pending busy closed t' course posted h' k' then opening step told =
       let own = own_here form z b t h late views k id x at live in
       let b' : Board = with_status b p (at_stage b p stage) in
-      let y : Whole = record x { knows = k' } in record {
+      let a : ℕ = (b.status p).number in
+      let here : b'.status p ≡ at_stage b p stage = put-here b.status p (at_stage b p stage) in
+      let over : DecidedBelow b'.status p (a + 1) = subst
+      (λ (u : Status). (a + 1 ≤ u.number + 1) × (a + 1 ≡ u.number + 1 → IsOpen u.stage → ⊥)) (sym here)
+      (omega arith, λ _ o. closed o) in
+      let small : a < 2 ^ 28 = (k.kept.shared.statuses p).0 in
+      let y : Whole = record x { view = after_decided x.view p a; knows = k' } in record {
         view = y;
         board = b';
         past = t';
         history = h';
         late = late;
         only = only_status b p (at_stage b p stage);
-        is = ap packed (put-here b.status p (at_stage b p stage));
-        kept = whole_goes form z b t h late views k id x at live b' t' h' late y [] opening step (refl, refl, refl, refl) refl
-            (subst (λ (c : ℕ → ℕ → ℕ). Own z b.install c id x.view) (sym course) own)
+        is = ap packed here;
+        kept = whole_goes form z b t h late views k id x at live b' t' h' late y (decided_below p (a + 1) ∷ []) opening step
+            (refl, refl, refl, refl) refl
+            (subst (λ (c : ℕ → ℕ → ℕ). Own z b.install c id y.view) (sym course)
+            (record { sized = own.sized; seated = own.seated; known = own.known; ahead = own.ahead; unplaced = own.unplaced }))
             (λ no. let was = (mine form z b t h late views k id x at live).tries live no in
             (posted ∙ was.0, tries_stay z.slots b b' id x.view.attempt (leaves_tries b p stage pending busy id) was.1))
-            (all_none (NoteHolds z b' t'));
+            (all_one (NoteHolds z b' t') (decided_below p (a + 1)) (over, (lt, (omega arith))));
         told = told;
       }
 
@@ -159,7 +174,7 @@ module _ (form : Form) (z : Size) where
       (own_here form z b t h late views k id x at live) (mine form z b t h late views k id x at live).noted x.knows
       (known_here form z b t h late views k id x at live) p s small pending able in
       let y : ℕ = code p (b.status p).number in let h' : History = commit h y s in
-      decided id x live b t h late views k at p (Succeeded s) pending (λ i. i)
+      decided id x live b t h late views k at p (Succeeded s) lt pending (λ i. i) (λ o. o)
       (with_values t h'.plain h'.plain t.attempt t.words) refl refl h' (after_decision x.knows y (committed s))
       (λ u. SameSeat x.view u.view
       × DecidedAs x p (b.status p).number (committed s) (packed (undecided_status (b.status p).number)) (packed (b.status p)) u)
@@ -178,6 +193,7 @@ module _ (form : Form) (z : Size) where
       (decided_hits id me.0 p a (Succeeded s) (committed s) inside.1 may.low refl (success_hits id me.0 p a s live inside may))
       (decision_misses id me.0 p (packed (undecided_status a))
       (λ y. y ≡ record me.0 {
+        view = after_decided me.0.view p (unpacked (packed (undecided_status a))).number;
         knows = after_decision me.0.knows (code p (unpacked (packed (undecided_status a))).number)
             (verdict_by (unpacked (packed (decided_status a (Succeeded s)))).stage);
       }) live (inside.0, tt))
@@ -200,7 +216,7 @@ module _ (form : Form) (z : Size) where
       (own_here form z b t h late views k id x at live) (mine form z b t h late views k id x at live).noted x.knows
       (known_here form z b t h late views k id x at live) p cause small pending in_range able in
       let y : ℕ = code p (b.status p).number in
-      decided id x live b t h late views k at p (stage_by cause) pending (is_busy cause) t refl refl (abort h y cause)
+      decided id x live b t h late views k at p (stage_by cause) lt pending (is_busy cause) (is_closed cause) t refl refl (abort h y cause)
       (after_decision x.knows y (aborted cause))
       (λ u. SameSeat x.view u.view
       × DecidedAs x p (b.status p).number (aborted cause) (packed (undecided_status (b.status p).number)) (packed (b.status p)) u)
@@ -220,6 +236,7 @@ module _ (form : Form) (z : Size) where
       (fails_so me.0.view me.0.knows p a cause may) (failure_hits id me.0 p a cause live inside in_range may))
       (decision_misses id me.0 p (packed (undecided_status a))
       (λ y. y ≡ record me.0 {
+        view = after_decided me.0.view p (unpacked (packed (undecided_status a))).number;
         knows = after_decision me.0.knows (code p (unpacked (packed (undecided_status a))).number)
             (verdict_by (unpacked (packed (decided_status a (stage_by cause)))).stage);
       }) live (inside.0, tt))
@@ -234,17 +251,17 @@ module _ (form : Form) (z : Size) where
       let at_seat : ℕ × ℕ → Type 0 = λ i. packed (b.status i.0) ≡ packed (undecided_status i.1)
       → WholeGoes form z b views id (at_own i.0 own_status) (packed (decided_status i.1 Withdrawn))
       (λ y. SameSeat x.view y.view × StatusTried x i.0 (packed (undecided_status i.1)) (packed (b.status i.0))
-      (λ y'. y' ≡ record x { knows = after_withdrawal x.knows (code i.0 i.1) (aborted withdrawn) }) y) in
+      (λ y'. y' ≡ record x { view = after_decided x.view i.0 i.1; knows = after_withdrawal x.knows (code i.0 i.1) (aborted withdrawn) }) y) in
       let here : at_seat (id, (b.status id).number) = λ found.
       let is = found_undecided b t h late views k id (b.status id).number (k.kept.shared.statuses id).0 found in
       let pending : IsOpen (b.status id).stage = subst (λ (u : Status). IsOpen u.stage) (sym is) tt in
       let step = withdraw_step form z k.kept.few id b t t.words h late k.kept.shared k.world x.view own
       (mine form z b t h late views k id x at live).noted x.knows known pending in
       let y : ℕ = code id (b.status id).number in
-      decided id x live b t h late views k at id Withdrawn pending (λ i. i) t refl refl (abort h y withdrawn)
+      decided id x live b t h late views k at id Withdrawn own.seated.1 pending (λ i. i) (λ o. o) t refl refl (abort h y withdrawn)
       (after_withdrawal x.knows y (aborted withdrawn))
       (λ u. SameSeat x.view u.view × StatusTried x id (packed (undecided_status (b.status id).number)) (packed (b.status id))
-      (λ y'. y' ≡ record x { knows = after_withdrawal x.knows y (aborted withdrawn) }) u)
+      (λ y'. y' ≡ record x { view = after_decided x.view id (b.status id).number; knows = after_withdrawal x.knows y (aborted withdrawn) }) u)
       refl step ((refl, refl, refl, refl, refl), record { hit = λ _. refl; miss = λ ne. absurd (ne found) }) in
       subst at_seat (λ i. (sym own.seated.0 i, known.own.number i)) here hit
 
@@ -261,4 +278,4 @@ module _ (form : Form) (z : Size) where
       (HasWithdrawn me.0 (packed (undecided_status a))) in_p sized
       (withdrawal_hits id me.0 live in_p)
       (decision_misses id me.0 me.0.view.seat (packed (undecided_status a))
-      (λ y. y ≡ record me.0 { knows = after_withdrawal me.0.knows (code me.0.view.seat a) (aborted withdrawn) }) live in_p)
+      (λ y. y ≡ record me.0 { view = after_decided me.0.view me.0.view.seat a; knows = after_withdrawal me.0.knows (code me.0.view.seat a) (aborted withdrawn) }) live in_p)

@@ -1,5 +1,5 @@
 -- A number in place of a reference under the whole rule: then the word is clean of the reference's attempt.
-use Rattle.std.proofs.Common.{◌≡◌, ℕ, eqb, ◌+◌, ◌<◌, ◌≤◌, true, List, ◌∷◌, ◌++◌, None, refl, sym, ap, ◌∙◌, subst, arith}
+use Rattle.std.proofs.Common.{◌≡◌, ◌≢◌, ℕ, eqb, ◌+◌, ◌<◌, ◌≤◌, true, List, ◌∷◌, ◌++◌, None, refl, sym, ap, ◌∙◌, subst, arith}
 use mathlib.Core.Option.{none}
 use prog.Atomic.{either}
 use Rattle.atomic_table.specs.Table.{step, Allows}
@@ -28,7 +28,7 @@ use Rattle.pc_exchange_law.specs.ExchangeConditions.{MayTakeReference}
 use Rattle.pc_exchange_law.specs.Knowing.{WordSeen}
 use Rattle.pc_exchange_law.specs.Ties.{code}
 use Rattle.pc_exchange_law.specs.Wholes.{Whole, WholeHolds}
-use Rattle.pc_exchange_law.specs.WholePlays.{WholeMine, ReferenceTaken, TookReference}
+use Rattle.pc_exchange_law.specs.WholePlays.{WholeMine, CellSeen, ReferenceTaken, TookReference}
 use Rattle.pc_exchange_law.specs.WholeSteps.{whole_takes_reference}
 use Rattle.pc_exchange_law.proofs.ExchangeSteps.{take_step}
 use Rattle.pc_exchange_law.proofs.Knowing.{decided_on_board}
@@ -37,6 +37,10 @@ use Rattle.pc_exchange_law.proofs.WholeKeeping.{mine, own_here, known_here, whol
 use Rattle.pc_exchange_law.proofs.WholeLooks.{plain_there}
 use Rattle.pc_exchange_law.proofs.WholeSteps.{WholeHits, WholeMisses, whole_swapped}
 use Rattle.pc_exchange_law.proofs.WordsSeen.{loads_tell_passes}
+
+-- a step that hits doesn't miss
+never_missed : (x : Whole) (n : ℕ) (f : Field) (old r : ℕ) (y : Whole) → r ≡ old → r ≢ old → CellSeen x n f r y
+never_missed x n f old r y hit ne = absurd (ne hit)
 
 module _ (form : Form) (z : Size) where
   reference_hits : (id : ℕ) (x : Whole) (n : ℕ) (f : Field) (p a v : ℕ) → x.view.live ≡ true → IsAttempt z p a
@@ -96,7 +100,7 @@ module _ (form : Form) (z : Size) where
               has_later (clean p a n f) (found n f (Plain v)) m (subst (λ (w : WordKind). Has (found n f w) m) back has),
             );
             learnt = λ _. subst (λ (w : WordKind). WordSeen x.knows n f w learnt.0) (here ∙ sym back) learnt.1;
-            miss = λ ne. absurd (ne hit);
+            miss = never_missed x n f (raw (Exchange p a)) (raw (b.cell n f)) y hit;
           },
         );
       }

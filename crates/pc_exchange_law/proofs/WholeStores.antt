@@ -1,6 +1,6 @@
 -- Stores to the own words under the whole rule: to the own install's descriptor, to the own descriptor, the publication of
 -- the own next attempt, and its clearing.
-use Rattle.std.proofs.Common.{◌≡◌, ℕ, ◌+◌, true, List, [], refl, sym, ap, ◌∙◌, subst}
+use Rattle.std.proofs.Common.{◌≡◌, ℕ, ◌+◌, true, List, [], refl, sym, ap, ap₂, ◌∙◌, subst}
 use mathlib.Core.Option.{none}
 use Rattle.atomic_table.specs.Table.{step, Allows}
 use Rattle.pc_model.specs.Forms.{Form, IsSound}
@@ -8,7 +8,7 @@ use Rattle.pc_words.specs.declared.status.Stage.TheVariants.{Idle, Undecided}
 use Rattle.pc_words.specs.declared.status.Status.{Status}
 use Rattle.pc_words.specs.Statuses.{packed}
 use Rattle.pc_rule_law.specs.Board.{Size, Board, own_status, own_install, own_word, at_own, address, Inside, Only, put, put2}
-use Rattle.pc_rule_law.specs.Past.{Attempt, Past}
+use Rattle.pc_rule_law.specs.Past.{Attempt, Past, Describes}
 use Rattle.pc_rule_law.specs.Stages.{IsIdle}
 use Rattle.pc_rule_law.specs.Views.{View, NoteHolds}
 use Rattle.pc_rule_law.specs.Rule.{Shared}
@@ -22,6 +22,7 @@ use Rattle.pc_rule_law.proofs.Updates.{put-here, put2-here}
 use Rattle.pc_protocol.specs.Histories.{History}
 use Rattle.pc_protocol.specs.Steps.{publish}
 use Rattle.pc_exchange_law.specs.AttemptSteps.{with_own_word}
+use Rattle.pc_exchange_law.specs.Attempts.{word_in}
 use Rattle.pc_exchange_law.specs.Changes.{with_status, with_values, at_stage}
 use Rattle.pc_exchange_law.specs.ExchangeConditions.{MayStoreOwn, MayPublish, MayClear}
 use Rattle.pc_exchange_law.specs.ExchangeLaws.{Comes}
@@ -141,7 +142,7 @@ module _ (form : Form) (z : Size) where
       let t' : Past = with_values t t.cells t.plain (put2 t.attempt id a e) (put2 t.words id a (b.word id)) in
       let h' : History = publish h (code id a) (exchange_of e) c in
       let here : b'.status id ≡ s = put-here b.status id s in
-      let y : Whole = record x { view = after_publish x.view; knows = after_publication x.knows } in record {
+      let y : Whole = record x { view = after_publish x.view; knows = after_publication x.knows (code id a) (exchange_of e) c } in record {
         view = y;
         board = b';
         past = t';
@@ -162,7 +163,17 @@ module _ (form : Form) (z : Size) where
               },
             ))
             (all_none (NoteHolds z b' t'));
-        told = ((refl, refl, refl, refl, refl), λ _. refl);
+        told = (
+          (refl, refl, refl, refl, refl),
+          λ _. (
+            e,
+            c,
+            subst (λ (u : Size). Describes u.slots e (word_in x.knows.own.words)) (sym own.sized) may.described,
+            may.clock,
+            ap (λ (i : ℕ). record x { view = after_publish x.view; knows = after_publication x.knows i (exchange_of e) c })
+                (ap₂ (λ (j i : ℕ). code j (i + 1)) (sym own.seated.0) same),
+          ),
+        );
       }
 
   -- the own next attempt is published

@@ -200,7 +200,7 @@ abbrev pub h4 : History
 h4 = publish h0 256 (exchange_of to_raise) 5
 
 abbrev pub k4 : PassKnows
-k4 = after_publication k3
+k4 = after_publication k3 256 (exchange_of to_raise) 5
 
 pub step4 : Comes any_form two 0 b3 t0 no_scripts h0 none_late b4 t4 w4 h4 none_late k4
 step4 = (steps b2 t0 no_scripts h0 none_late b3 t0 no_scripts h0 none_late k3 v0 step3 own0

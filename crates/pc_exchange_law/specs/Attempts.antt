@@ -1,13 +1,14 @@
 -- What a pass knows of attempts, its own and those of others, once passes publish exchanges: its own attempt, as it
 -- lies in its view, and notes of words of descriptors, with what each of them means. What is said of the run is noted
 -- in the protocol's own notes.
-use Rattle.std.specs.Prelude.{◌≡◌, ◌≢◌, ℕ, ◌+◌, ◌*◌, ◌<◌, ◌≤◌, ◌⊎◌, ◌==◌, if◌then◌else◌, Bool, true, false, List, [], ◌∷◌}
+use Rattle.std.specs.Prelude.{◌≡◌, ◌≢◌, ℕ, ◌+◌, ◌*◌, ◌<◌, ◌≤◌, ◌⊎◌, Bool, true, false, List}
 use Rattle.pc_model.specs.declared.cell.Field.{Field}
 use Rattle.pc_words.specs.declared.word.WordKind.{WordKind}
 use Rattle.pc_words.specs.declared.word.WordKind.TheVariants.{Plain, Install, Exchange}
 use Rattle.pc_rule_law.specs.Board.{Board, place_number}
 use Rattle.pc_rule_law.specs.Past.{Has, Placing, Past, Describes}
 use Rattle.pc_rule_law.specs.Stages.{IsIdle, DecidedBelow}
+pub use Rattle.pc_rule_law.specs.Views.{word_in}
 use Rattle.pc_protocol.specs.Histories.{withdrawn, aborted, History}
 use Rattle.pc_exchange_law.specs.Ties.{code}
 
@@ -31,11 +32,6 @@ pub record OwnAttempt : Type 0 where
   pub withdrew : Bool
   -- the words that the pass stored into its descriptor, each behind its place, the last one first
   pub words : List (ℕ × ℕ)
-
--- the word at a place, which is 0 until one is stored
-abbrev pub word_in : List (ℕ × ℕ) → ℕ → ℕ
-word_in [] place = 0
-word_in (w ∷ ws) place = if place == w.0 then w.1 else word_in ws place
 
 -- what it says of the board and the history, for the pass at seat j
 pub record OwnsAttempt (b : Board) (h : History) (j : ℕ) (o : OwnAttempt) : Type 0 where

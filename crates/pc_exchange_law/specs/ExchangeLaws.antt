@@ -56,7 +56,8 @@ module _ (form : Form) (z : Size) (id : ℕ) (b : Board) (t : Past) (w : Scripts
         → let a : ℕ = (b.status id).number + 1 in
         Comes (with_status b id (record { number = a; stage = Undecided }))
         (with_values t t.cells t.plain (put2 t.attempt id a x) (put2 t.words id a (b.word id))) (with_script w id a (b.word id))
-        (publish h (code id a) (exchange_of x) c) late (after_publication k)
+        (publish h (code id a) (exchange_of x) c) late
+        (after_publication k (code id a) (exchange_of x) c)
     -- a draw gives the clock as the stamp; where it is at the last one or above, the draw is refused
     pub draws : (p a : ℕ) → MayDrawFor v k p a
         → (late' : ℕ → Bool)

@@ -3,6 +3,7 @@
 use Rattle.std.specs.Prelude.{◌≡◌, ℕ, ◌+◌, ◌<◌, Bool, true, false, List, [], ◌∷◌, ◌++◌}
 use Rattle.pc_model.specs.declared.cell.Field.{Field}
 use Rattle.pc_model.specs.declared.cell.Field.TheVariants.{Version}
+use Rattle.pc_model.specs.Exchanges.{Exchange as PathExchange}
 use Rattle.pc_words.specs.declared.word.WordKind.{WordKind}
 use Rattle.pc_words.specs.declared.word.WordKind.TheVariants.{Plain, Install, Exchange}
 use Rattle.pc_words.specs.declared.status.Status.{Status}
@@ -10,7 +11,7 @@ use Rattle.pc_rule_law.specs.Board.{Board}
 use Rattle.pc_rule_law.specs.Past.{Has, Past}
 use Rattle.pc_rule_law.specs.Stages.{IsIdle, IsOpen}
 use Rattle.pc_protocol.specs.Histories.{Stage, History}
-use Rattle.pc_protocol.specs.Notes.{Note, clock_was, visited, read_word, held, drew, verdict}
+use Rattle.pc_protocol.specs.Notes.{Note, clock_was, visited, read_word, published, held, drew, verdict}
 use Rattle.pc_exchange_law.specs.Ties.{code, last_stamp, IsStageOf}
 use Rattle.pc_exchange_law.specs.Attempts.{Scripts, AttemptNote, came_to, loaded_word, listed_word, calm, calm_but}
 use Rattle.pc_exchange_law.specs.Passes.{PassKnows, IsKnown}
@@ -66,8 +67,9 @@ after_clock k c early = record (with_more k [] (clock_was c ∷ [])) { ready = e
 abbrev pub after_own_store : PassKnows → ℕ → ℕ → PassKnows
 after_own_store k place x = record k { own = record k.own { words = (place, x) ∷ k.own.words } }
 
-abbrev pub after_publication : PassKnows → PassKnows
-after_publication k = record k { own = record k.own { number = k.own.number + 1; busy = true; withdrew = false } }
+-- a publication of exchange x, which is this one, with the clock that was read before
+abbrev pub after_publication : PassKnows → ℕ → PathExchange → ℕ → PassKnows
+after_publication k x e c = record (with_more k [] (published x e c ∷ [])) { own = record k.own { number = k.own.number + 1; busy = true; withdrew = false } }
 
 -- a draw for exchange x at a stamp; and one that is refused at this clock
 abbrev pub after_draw : PassKnows → ℕ → ℕ → PassKnows

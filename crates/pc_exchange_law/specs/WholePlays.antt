@@ -1,6 +1,6 @@
 -- What each kind of step tells a pass whose view is whole: what the rule of installs says of its first part, and what it
 -- learns beside.
-use Rattle.std.specs.Prelude.{◌≡◌, ◌≢◌, ℕ, ◌<◌, ◌≤◌, ◌⊎◌, Bool, true, false}
+use Rattle.std.specs.Prelude.{◌≡◌, ◌≢◌, ℕ, ◌+◌, ◌<◌, ◌≤◌, ◌⊎◌, Bool, true, false, [], ◌∷◌}
 use Rattle.atomic_table.specs.Table.{Me}
 use Rattle.pc_model.specs.declared.cell.Field.{Field}
 use Rattle.pc_words.specs.declared.word.WordKind.{WordKind}
@@ -10,14 +10,14 @@ use Rattle.pc_words.specs.declared.status.Stage.TheVariants.{Idle, Undecided, Su
 use Rattle.pc_words.specs.Words.{kind, IsWord}
 use Rattle.pc_words.specs.Statuses.{unpacked, IsStatus}
 use Rattle.pc_rule_law.specs.Board.{own_status, own_install, own_word, Place, at_clock, at_own, at_cell}
-use Rattle.pc_rule_law.specs.Past.{Has}
-use Rattle.pc_rule_law.specs.Views.{Note, clean, View}
+use Rattle.pc_rule_law.specs.Past.{Has, Attempt, Describes}
+use Rattle.pc_rule_law.specs.Views.{Note, decided_below, clean, View, with_notes}
 use Rattle.pc_rule_law.specs.Plays.{IsNotedSince, IsLater, IsWell, Told, SameSeat, found, after_store, InstallLoaded, ClockLoaded}
 use Rattle.pc_rule_law.specs.Plays.{DescriptorLoaded as ViewLoaded, StatusLoaded, InstallTried, InstallTaken, after_write, after_publish}
 use Rattle.pc_protocol.specs.Histories.{withdrawn, ended, changed, locked, Stage, absent, undecided, committed, aborted}
-use Rattle.pc_protocol.specs.Notes.{verdict}
-use Rattle.pc_exchange_law.specs.Attempts.{calm, calm_but}
-use Rattle.pc_exchange_law.specs.Ties.{code, last_stamp}
+use Rattle.pc_protocol.specs.Notes.{clock_was, verdict}
+use Rattle.pc_exchange_law.specs.Attempts.{word_in, calm, calm_but}
+use Rattle.pc_exchange_law.specs.Ties.{code, last_stamp, exchange_of}
 use Rattle.pc_exchange_law.specs.Passes.{PassKnows}
 use Rattle.pc_exchange_law.specs.Knowing.{DescriptorLoaded, StatusSeen, WordSeen, after_clock, after_own_store}
 use Rattle.pc_exchange_law.specs.Knowing.{after_publication, after_draw, after_refusal, after_decision, after_withdrawal, after_clearing}
@@ -95,10 +95,11 @@ StoredWord x r y (at_own i (own_word place)) = i ≡ x.view.seat
     → y ≡ record x { view = after_write x.view place r; knows = after_own_store x.knows place r }
 StoredWord x r y _ = Unit {0}
 
--- the own next attempt is published
+-- the own next attempt is published: it is one that the stored words describe
 abbrev pub HasPublished : Whole → Whole → Place → Type 0
 HasPublished x y (at_own i own_status) = i ≡ x.view.seat
-    → y ≡ record x { view = after_publish x.view; knows = after_publication x.knows }
+    → (e : Attempt) × (c : ℕ) × Describes x.view.size.slots e (word_in x.knows.own.words) × Has x.knows.told (clock_was c)
+    × (y ≡ record x { view = after_publish x.view; knows = after_publication x.knows (code x.view.seat (x.knows.own.number + 1)) (exchange_of e) c })
 HasPublished x y _ = Unit {0}
 
 -- the own attempt is cleared
@@ -138,16 +139,20 @@ verdict_by Withdrawn = aborted ended
 verdict_by (ChangedNode n) = aborted (changed n)
 verdict_by (Locked n q) = aborted (locked n q)
 
+-- attempt a of pass p is decided
+abbrev pub after_decided : View → ℕ → ℕ → View
+after_decided v p a = with_notes v (decided_below p (a + 1) ∷ [])
+
 -- the attempt of this status took effect, or failed
 abbrev pub HasDecided : Whole → ℕ → ℕ → ℕ → Whole → Place → Type 0
 HasDecided x old new r y (at_own p own_status) = StatusTried x p old r
-    (λ y'. y' ≡ record x { knows = after_decision x.knows (code p (unpacked old).number) (verdict_by (unpacked new).stage) }) y
+    (λ y'. y' ≡ record x { view = after_decided x.view p (unpacked old).number; knows = after_decision x.knows (code p (unpacked old).number) (verdict_by (unpacked new).stage) }) y
 HasDecided x old new r y _ = Unit {0}
 
 -- the pass withdrew its own
 abbrev pub HasWithdrawn : Whole → ℕ → ℕ → Whole → Place → Type 0
 HasWithdrawn x old r y (at_own p own_status) = StatusTried x p old r
-    (λ y'. y' ≡ record x { knows = after_withdrawal x.knows (code p x.knows.own.number) (aborted withdrawn) }) y
+    (λ y'. y' ≡ record x { view = after_decided x.view p x.knows.own.number; knows = after_withdrawal x.knows (code p x.knows.own.number) (aborted withdrawn) }) y
 HasWithdrawn x old r y _ = Unit {0}
 
 -- ---- a compare_exchange on a word of a node

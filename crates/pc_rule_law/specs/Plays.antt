@@ -101,7 +101,7 @@ LoadedInstall v r w _ = Unit {0}
 abbrev pub loads_install : Step Bool → Mine → ℕ → Mine → Type 0
 loads_install st m r m' = Tells m st.word (LoadedInstall m.0 r) m'
 
--- a plain word has the value that the board opened with: so it is as long as passes make installs alone
+-- a plain word has the value that the board opened with: so it is as long as no exchange is decided
 abbrev pub IsOpeningWord : View → ℕ → Field → ℕ → Type 0
 IsOpeningWord v n f r = (x : ℕ) → kind r ≡ Plain x → x ≡ opening_cells v.size.starts.version n f
 

@@ -1,5 +1,5 @@
 -- What a table is told when it is made: the size of the board, the exchanges that passes are given, and when its cells are
--- sound. While passes make installs alone, no plain value changes, so they are the cells of the opening.
+-- sound. While no exchange is decided, no plain value changes, so they are the cells of the opening.
 use Rattle.std.specs.Prelude.{◌≡◌, ℕ, map}
 use Rattle.pc_model.specs.declared.cell.Field.{Field}
 use Rattle.pc_model.specs.Cells.{Cells}

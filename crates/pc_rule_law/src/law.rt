@@ -1,5 +1,5 @@
-//! The rule of the table, for cells of any shape. As long as passes make installs alone, no plain value changes: the cells
-//! are those of the opening.
+//! The rule of the table, for cells of any shape. As long as no exchange is decided, no plain value changes: the cells are
+//! those of the opening.
 ghost use Rattle.pc_rule_law.specs.Rule.{Holds};
 ghost use Rattle.pc_rule_law.specs.Tables.{size_of, first_view, sound_cells};
 
