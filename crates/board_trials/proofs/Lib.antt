@@ -1,3 +1,7 @@
+pub mod OwnSteps
 pub mod FirstTwo
+pub mod Loosely
 pub mod Published
+pub mod Seated
 pub mod Slices
+pub mod Staying

@@ -1,5 +1,5 @@
 -- What is known of a pass that publishes two words, and of an install that it met.
-use Rattle.std.proofs.Common.{◌≡◌, ℕ, List, [], ◌∷◌, sym, ap, subst, arith}
+use Rattle.std.proofs.Common.{◌≡◌, ℕ, suc, List, [], ◌∷◌, ◌++◌, sym, ap, subst, arith}
 use Rattle.std.specs.Prelude.{OnOk, OnErr}
 use Rattle.std.specs.List.{All}
 use Rattle.std.specs.List.Sorted.{IsPermutation}
@@ -25,15 +25,20 @@ use Rattle.pc_dcss.proofs.Meeting.{met_install}
 use Rattle.pc_kcas.specs.Exchanges.{OnlyPublished}
 use Rattle.pc_kcas.proofs.Attempts.{free_published}
 
+all_holds : (P : Place → Type 0) (fore rest : List Place) (p : Place) → All P (fore ++ (p ∷ rest)) → P p
+all_holds P [] rest p all = all 0 p (omega arith)
+all_holds P (x ∷ xs) rest p all = all_holds P xs rest p (λ k d lt. all (suc k) d (omega arith))
+
 pub free_after : (v w : View) (X : Type 0) (r : Result (Unit {0}) Numbers) → OnOk r (OnlyPublished v w) → OnErr r ((w ≡ v) × X) → IsFree v → IsFree w
 free_after v w X (Ok _) only same free = free_published v w only free
 free_after v w X (Err e) only same free = subst IsFree (sym same.0) free
 
--- what is known of each listed word is known of the first that was listed
-pub known_first : (P : Place → Type 0) (old new rest : List Place) (p : Place) (r : Result (Unit {0}) Numbers) → old ≡ p ∷ rest → OnOk r (IsPermutation old new)
+-- what is known of each listed word in another order is known of each
+pub known_listed : (P : Place → Type 0) (old new fore rest : List Place) (p : Place) (r : Result (Unit {0}) Numbers) → old ≡ fore ++ (p ∷ rest) → OnOk r (IsPermutation old new)
     → OnOk r (All P new) → OnOk r (P p)
-known_first P old new rest p (Ok _) is same all = All-permutation P new (p ∷ rest) (IsPermutation-sym (p ∷ rest) new (subst (λ (l : List Place). IsPermutation l new) is same)) all 0 p (omega arith)
-known_first P old new rest p (Err e) is same all = tt
+known_listed P old new fore rest p (Ok _) is same all = all_holds P fore rest p
+    (All-permutation P new (fore ++ (p ∷ rest)) (IsPermutation-sym (fore ++ (p ∷ rest)) new (subst (λ (l : List Place). IsPermutation l new) is same)) all)
+known_listed P old new fore rest p (Err e) is same all = tt
 
 pub met_known : (v w : View) (op : Ref) (place : Place) (i : Installed) → IfMet i (IsMet v w op place) → IfMet i (λ r. r.kind ≡ Install → HasMet w r.seat r.number)
 met_known v w op place Held met = tt

@@ -6,6 +6,7 @@ ghost use Rattle.pc_rule_law.specs.Conditions.{IsFree, CanWrite};
 ghost use Rattle.pc_rule.specs.Passes.{view, listed, board_size, IsPassOf, IsSeatedAs, IsSamePass};
 ghost use Rattle.pc_rule.specs.Shares.{AreStarts, AreAll, NoneTried};
 ghost use Rattle.pc_dcss.specs.Installs.{HasMet, KnowsPlace, KeepsNotes, KeepsAttempt, IfMet};
+ghost use Rattle.pc_rule.specs.declared.opening.Place.{Place};
 ghost use Rattle.pc_rule.specs.declared.refs.RefKind.TheVariants.{Install};
 ghost use Rattle.pc_kcas.specs.Exchanges.{IsPublished, own_exchange};
 
@@ -17,7 +18,7 @@ use pc_rule::{
 };
 
 /// The version of the sentinel, from 0 to 2.
-fn version() -> Place
+pub(crate) fn version() -> Place
     ensures word { (result.node ≡ 1) × (result.field ≡ Version) }
     ensures numbers { (result.old ≡ 0) × (result.new ≡ 2) }
 {
@@ -30,7 +31,7 @@ fn version() -> Place
 }
 
 /// The value of the sentinel, from 0 to this one.
-fn value(new: u32) -> Place
+pub(crate) fn value(new: u32) -> Place
     ensures word { (result.node ≡ 1) × (result.field ≡ Value) }
     ensures numbers { (result.old ≡ 0) × (result.new ≡ new) }
 {
@@ -43,7 +44,7 @@ fn value(new: u32) -> Place
 }
 
 /// The exchange of a pass's last attempt.
-fn exchange_of(board: &Board<Loose>, pass: &Pass<Loose>) -> Ref
+pub(crate) fn exchange_of(board: &Board<Loose>, pass: &Pass<Loose>) -> Ref
     requires { IsPassOf board.now pass.now }
     ensures { result ≡ own_exchange pass.now }
 {
@@ -55,7 +56,7 @@ fn exchange_of(board: &Board<Loose>, pass: &Pass<Loose>) -> Ref
 }
 
 /// The pass lists both words and publishes them.
-fn published(
+pub(crate) fn published(
     board: &Board<Loose>,
     pass: &mut Pass<Loose>,
     one: Place,
@@ -70,6 +71,7 @@ fn published(
     ensures free { IsFree (view pass.new) }
     ensures published { OnOk result (IsPublished pass.new) }
     ensures known { OnOk result (KnowsPlace (view pass.new) (own_exchange pass.new) one) }
+    ensures second { OnOk result (KnowsPlace (view pass.new) (own_exchange pass.new) two) }
 {
     word(pass, one);
     word(pass, two);
@@ -93,7 +95,7 @@ fn complete_met(board: &Board<Loose>, pass: &mut Pass<Loose>, answer: Installed)
 }
 
 /// An install of one word of the pass's exchange. An install of another pass that it meets is completed.
-fn installed(board: &Board<Loose>, pass: &mut Pass<Loose>, place: Place) -> Installed
+pub(crate) fn installed(board: &Board<Loose>, pass: &mut Pass<Loose>, place: Place) -> Installed
     requires pass { IsPassOf board.now pass.old }
     requires free { IsFree (view pass.old) }
     requires published { IsPublished pass.old }
@@ -102,6 +104,7 @@ fn installed(board: &Board<Loose>, pass: &mut Pass<Loose>, place: Place) -> Inst
     ensures free { IsFree (view pass.new) }
     ensures published { IsPublished pass.new }
     ensures known { KnowsPlace (view pass.new) (own_exchange pass.new) place }
+    ensures keeps { (x : Place) → KnowsPlace (view pass.old) (own_exchange pass.old) x → KnowsPlace (view pass.new) (own_exchange pass.new) x }
 {
     let op = exchange_of(board, pass);
     let answer = install(board, pass, op, place);

@@ -5,12 +5,16 @@
 #[cfg(test)]
 mod boards;
 #[cfg(test)]
-mod exchanges;
+mod deciding;
 #[cfg(test)]
-mod installs;
+mod exchanges;
 #[cfg(test)]
 mod meetings;
 #[cfg(test)]
+mod rows;
+#[cfg(test)]
 mod steps;
+#[cfg(test)]
+mod withdrawals;
 #[cfg(test)]
 mod words;

@@ -1,23 +1,24 @@
 //! Threads that install in the same words at the same time, so that they meet, and complete, each other's installs.
-ghost use Rattle.pc_rule_law.specs.Conditions.{IsFree};
-ghost use Rattle.pc_rule_law.specs.Past.{Has, change};
-ghost use Rattle.pc_rule_law.specs.Views.{entry};
-ghost use Rattle.pc_rule.specs.Calls.{AllHave};
-ghost use Rattle.pc_rule.specs.Passes.{view, IsPassOf, IsSamePass};
-ghost use Rattle.pc_rule.specs.Shares.{AreAll};
+ghost use Rattle.std.specs.Prelude.{◌≡◌, []};
+ghost use Rattle.pc_rule_law.specs.Conditions.{IsFree, CanWrite};
+ghost use Rattle.pc_rule.specs.Passes.{view, listed, IsPassOf, IsSeatedAs, IsSamePass};
+ghost use Rattle.pc_rule.specs.Shares.{AreAll, NoneTried};
+ghost use Rattle.pc_dcss.specs.Installs.{KnowsPlace};
+ghost use Rattle.pc_kcas.specs.Exchanges.{IsPublished, own_exchange};
 
-use crate::installs::{Row, installed, opened, withdrawn};
+use crate::exchanges::{installed, published, value, version};
+use crate::withdrawals::withdrawn;
 use pc_dcss::Installed;
 use pc_model::{Field, Loose, Memory};
-use pc_rule::{Board, Pass, Share, close_board};
+use pc_rule::{Board, Pass, Place, Share, close_board, open_board, usual_starts};
 use std::sync::atomic::{AtomicU64, Ordering};
 use std::thread;
 use std::thread::Threads;
 
-/// How often each thread installs each row.
+/// How often each thread installs each word.
 const TIMES: u32 = 100_000;
 
-/// Whether a withdrawn exchange may be answered so.
+/// Whether an install for a withdrawn exchange may be answered so.
 fn is_decided_or_met(answer: Installed) -> bool {
     match answer {
         Installed::Decided => true,
@@ -26,47 +27,64 @@ fn is_decided_or_met(answer: Installed) -> bool {
     }
 }
 
-/// Installs both rows again and again. Says whether each answer was one of a withdrawn exchange.
-fn install_often(board: &Board<Loose>, pass: &mut Pass<Loose>, one: Row, two: Row) -> bool
+/// Installs both words again and again. Says whether each answer was one of a withdrawn exchange.
+fn install_often(board: &Board<Loose>, pass: &mut Pass<Loose>, one: Place, two: Place) -> bool
     requires pass { IsPassOf board.now pass.old }
     requires free { IsFree (view pass.old) }
-    requires one { Has (view pass.old).notes (entry 0 1 (change 1 one.field one.old one.new)) }
-    requires two { Has (view pass.old).notes (entry 1 1 (change 1 two.field two.old two.new)) }
+    requires published { IsPublished pass.old }
+    requires one { KnowsPlace (view pass.old) (own_exchange pass.old) one }
+    requires two { KnowsPlace (view pass.old) (own_exchange pass.old) two }
     ensures same { IsSamePass pass.old pass.new }
     ensures free { IsFree (view pass.new) }
 {
     let mut all = true;
     for _ in 0..TIMES {
-        let first = installed(board, pass, 0, one);
-        let second = installed(board, pass, 1, two);
+        let first = installed(board, pass, one);
+        let second = installed(board, pass, two);
         all = all && is_decided_or_met(first) && is_decided_or_met(second);
     }
     all
 }
 
-/// Each pass installs both rows again and again, in a thread of its own. Counts the passes with another answer than those
-/// of a withdrawn exchange.
+/// The pass publishes the version and this value of the sentinel, withdraws, and installs both words again and again. Says
+/// whether it withdrew, and each answer then was one of a withdrawn exchange.
+fn withdraw_and_install(board: &Board<Loose>, pass: &mut Pass<Loose>, new: u32) -> bool
+    requires pass { IsPassOf board.now pass.old }
+    requires open { CanWrite (view pass.old) × (listed pass.old ≡ []) }
+    requires free { IsFree (view pass.old) }
+    ensures seated { IsSeatedAs pass.old pass.new }
+    ensures free { IsFree (view pass.new) }
+{
+    let one = version();
+    let two = value(new);
+    let Ok(()) = published(board, pass, one, two) else {
+        return false;
+    };
+    let undecided = withdrawn(board, pass);
+    install_often(board, pass, one, two) && undecided
+}
+
+/// Each pass withdraws an exchange of the same two words and installs both again and again, in a thread of its own. Counts the
+/// passes with another answer than those of a withdrawn exchange.
 fn installed_in_threads<R: Threads + Sync>(
     rt: &R,
     board: &Board<Loose>,
     passes: &mut [Pass<Loose>],
-    one: Row,
-    two: Row,
 ) -> u64
     requires all { AreAll board.now passes.old }
-    requires known { AllHave passes.old (entry 0 1 (change 1 one.field one.old one.new)) × AllHave passes.old (entry 1 1 (change 1 two.field two.old two.new)) }
+    requires open { NoneTried passes.old }
     ensures { AreAll board.now passes.new }
 {
     let strange = AtomicU64::new(0);
-    let work = |_: usize, pass: &mut Pass<Loose>|
+    let work = |i: usize, pass: &mut Pass<Loose>|
         requires pass { IsPassOf board.now pass.old }
+        requires open { CanWrite (view pass.old) × (listed pass.old ≡ []) }
         requires free { IsFree (view pass.old) }
-        requires one { Has (view pass.old).notes (entry 0 1 (change 1 one.field one.old one.new)) }
-        requires two { Has (view pass.old).notes (entry 1 1 (change 1 two.field two.old two.new)) }
-        ensures same { IsSamePass pass.old pass.new }
+        ensures seated { IsSeatedAs pass.old pass.new }
         ensures free { IsFree (view pass.new) }
     {
-        if !install_often(board, pass, one, two) {
+        let new = if i == 0 { 50 } else { 60 };
+        if !withdraw_and_install(board, pass, new) {
             strange.fetch_add(1, Ordering::SeqCst);
         }
     };
@@ -77,14 +95,10 @@ fn installed_in_threads<R: Threads + Sync>(
 #[test]
 fn threads_install_in_the_same_words(rt: HostRuntime) -> Result<(), Memory> {
     let share = Share { slots: 1, calls: 0 };
-    let rows = [
-        withdrawn(Field::Value, 0, 50),
-        withdrawn(Field::Height, 0, 6),
-    ];
-    let (board, mut passes) = opened(rt.alloc(), &[share, share], &rows)?;
-    let strange = installed_in_threads(&rt, &board, passes.as_mut_slice(), rows[0], rows[1]);
+    let (board, mut passes) = open_board(rt.alloc(), Loose, &[share, share], usual_starts())?;
+    let strange = installed_in_threads(&rt, &board, passes.as_mut_slice());
     let closed = close_board(board, passes);
-    let left = (closed.cell(1, Field::Value), closed.cell(1, Field::Height));
+    let left = (closed.cell(1, Field::Version), closed.cell(1, Field::Value));
     assert_eq!(rt; (strange, left), (0, (0, 0)));
     Ok(())
 }

@@ -1,5 +1,6 @@
 pub mod Staying
 pub mod Known
+pub mod Learnt
 pub mod Loads
 pub mod Takes
 pub mod Puts

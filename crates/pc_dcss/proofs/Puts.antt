@@ -1,14 +1,13 @@
 -- What the placing of the own install tells.
 use Rattle.std.proofs.Common.{◌≡◌, ℕ, ◌<◌, ◌≢◌, List, [], ◌∷◌, ◌++◌, sym, ap, ◌∙◌, subst, refl, inl, inr, ⊎_elim, arith}
 use Rattle.pc_model.specs.declared.cell.Field.{Field}
-use Rattle.pc_model.specs.Linked.{opening_cells}
 use Rattle.pc_words.specs.declared.word.WordKind.{WordKind}
 use Rattle.pc_words.specs.declared.word.WordKind.TheVariants.{Plain, Install, Exchange}
 use Rattle.pc_words.specs.Words.{raw, kind, IsWord}
 use Rattle.pc_words.proofs.Words.{raw_kind}
 use Rattle.pc_rule_law.specs.Board.{Size, place_number}
 use Rattle.pc_rule_law.specs.Past.{Has, change}
-use Rattle.pc_rule_law.specs.Views.{Note, View, entry, placed, install_word, held, NoteInRange, AllNotes, with_notes}
+use Rattle.pc_rule_law.specs.Views.{Note, View, entry, placed, install_word, held, removed, clean, NoteInRange, AllNotes, with_notes}
 use Rattle.pc_rule_law.specs.Plays.{own_notes, after_place, found, IsNotedSince}
 use Rattle.pc_rule_law.proofs.Lists.{has_right}
 use Rattle.pc_rule.specs.declared.opening.Place.{Place}
@@ -17,7 +16,7 @@ use Rattle.pc_rule.specs.declared.refs.RefKind.TheVariants.{Install as AnInstall
 use Rattle.pc_rule.specs.declared.refs.Ref.{Ref}
 use Rattle.pc_rule_law.specs.Conditions.{KnowsStill, KnowsEntry}
 use Rattle.pc_rule_law.proofs.Descriptors.{change_still}
-use Rattle.pc_dcss.specs.Installs.{entry_of, KnowsPlace, KeepsNotes, IsReady, IsPlaced, word_of, met_note, IsOther, IsMet, IsDifferent, OnHeld, IfMet, IfDiffers}
+use Rattle.pc_dcss.specs.Installs.{entry_of, KnowsPlace, KeepsNotes, IsReady, IsPlaced, word_of, met_note, IsOther, IsMet, IsGone, IsNews, IsDifferent, OnHeld, IfMet, IfDiffers}
 use Rattle.pc_dcss.specs.declared.installed.Installed.{Installed}
 use Rattle.pc_dcss.specs.declared.installed.Installed.TheVariants.{Held, Decided, Differs, Met, Numbers as OutOfNumbers}
 
@@ -129,15 +128,32 @@ module _ (v w : View) (op : Ref) (place : Place) (c : WordKind)
   )
   met_now (OutOfNumbers n) is other own = tt
 
-  pub differs_now : (i : Installed) → c ≢ Plain place.old → ((x : ℕ) → c ≡ Plain x → x ≡ opening_cells v.size.starts.version place.node place.field)
+  pub differs_now : (i : Installed) → c ≢ Plain place.old
       → IfDiffers i (λ x. c ≡ Plain x) → IfDiffers i (IsDifferent v w place)
   unfolding noted
-  differs_now Held ne opening is = tt
-  differs_now Decided ne opening is = tt
-  differs_now (Differs x) ne opening is = ((λ e. ne (is ∙ ap Plain e)), noted (Plain x) is, opening x is)
-  differs_now (Met r) ne opening is = tt
-  differs_now (OutOfNumbers n) ne opening is = tt
+  differs_now Held ne is = tt
+  differs_now Decided ne is = tt
+  differs_now (Differs x) ne is = ((λ e. ne (is ∙ ap Plain e)), noted (Plain x) is)
+  differs_now (Met r) ne is = tt
+  differs_now (OutOfNumbers n) ne is = tt
 
 -- a word other than that of a plain value isn't that plain value
 pub not_old : (r old x : ℕ) → IsWord r → old ≡ raw (Plain x) → r ≢ old → kind r ≢ Plain x
 not_old r old x is e ne k = ne (sym (raw_kind r is) ∙ (ap raw k ∙ sym e))
+
+-- the reference that was found isn't one that was known to be gone
+is_news : (v : View) (place : Place) (c : WordKind) (k : RefKind) (s m : ℕ) → c ≡ word_of k s m
+    → ((q j : ℕ) → c ≡ Install q j → Has v.notes (removed q j) → ⊥) → ((p a : ℕ) → c ≡ Exchange p a → Has v.notes (clean p a place.node place.field) → ⊥)
+    → IsGone k v.notes s m place.node place.field → ⊥
+is_news v place c AnInstall s m is present unclean gone = present s m is gone
+is_news v place c AnExchange s m is present unclean gone = unclean s m is gone
+
+pub new_now : (v : View) (place : Place) (c : WordKind) (i : Installed) → IfMet i (λ r. c ≡ word_of r.kind r.seat r.number)
+    → ((q j : ℕ) → c ≡ Install q j → Has v.notes (removed q j) → ⊥) → ((p a : ℕ) → c ≡ Exchange p a → Has v.notes (clean p a place.node place.field) → ⊥)
+    → IfMet i (IsNews v.notes place)
+unfolding is_news
+new_now v place c Held is present unclean = tt
+new_now v place c Decided is present unclean = tt
+new_now v place c (Differs x) is present unclean = tt
+new_now v place c (Met r) is present unclean = λ gone. is_news v place c r.kind r.seat r.number is present unclean gone
+new_now v place c (OutOfNumbers n) is present unclean = tt

@@ -1,6 +1,6 @@
 -- The conditions of a publication and of an install of the own exchange on a worked view: a pass of a board that has opened
 -- stores the words of one change, publishes, and knows then what an install asks for. So they can be met.
-use Rattle.std.proofs.Common.{◌≡◌, ℕ, zero, suc, ◌+◌, ◌*◌, ◌<◌, ◌≤◌, ◌^◌, inr, true, false, [], ◌∷◌, refl, sym, subst, arith}
+use Rattle.std.proofs.Common.{◌≡◌, ℕ, zero, suc, ◌+◌, ◌*◌, ◌<◌, ◌≤◌, ◌^◌, inl, inr, true, false, [], ◌∷◌, refl, sym, ap, subst, arith}
 use mathlib.Core.Option.{some, some-injective, some-ne-none}
 use lib.ListN.{get_elem?}
 use Rattle.pc_model.specs.declared.cell.Field.TheVariants.{Version}
@@ -13,7 +13,13 @@ use Rattle.pc_rule_law.specs.Plays.{after_write, after_publish}
 use Rattle.pc_rule_law.specs.Seats.{new_view}
 use Rattle.pc_rule_law.specs.Views.{View, word_in}
 use Rattle.pc_rule_law.proofs.Lists.{all_one}
+use Rattle.pc_model.specs.Forms.{Form, Fits}
+use Rattle.pc_history.specs.Footprints.{IsAmong, RaisesVersionOf}
+use Rattle.pc_protocol.specs.Notes.{clock_was}
+use Rattle.pc_exchange_law.specs.Passes.{PassKnows}
+use Rattle.pc_exchange_law.specs.Ties.{exchange_of}
 use Rattle.pc_rule.specs.Conditions.{MayPublish}
+use Rattle.pc_rule.proofs.Attempts.{describes_too}
 use Rattle.pc_rule.specs.declared.opening.Place.{Place}
 use Rattle.pc_rule.specs.declared.refs.Ref.{Ref}
 use Rattle.pc_rule.specs.declared.refs.RefKind.TheVariants.{Exchange}
@@ -36,6 +42,7 @@ formed : IsFormed 1 to_raise
 formed = record {
   few = omega arith;
   few_visits = omega arith;
+  no_visits = refl;
   inside = all_one (λ x. ((1 ≤ x.node) × (x.node ≤ 2)) × (x.old < 2 ^ 62) × (x.new < 2 ^ 62)) raise
       ((omega arith, omega arith), omega arith, omega arith);
   apart = λ i j x y at_i at_j _ _. let e = the_change i x at_i in let d = the_change j y at_j in omega arith;
@@ -64,9 +71,42 @@ described = record {
         (some-injective raise x at) (refl, refl, refl)
     entry (suc i) x at = absurd (some-ne-none x (sym at))
 
--- it may publish, as attempt 4
-may_publish : MayPublish stored (packed (record { number = 4; stage = Undecided }))
-may_publish = (to_raise, refl, record { may = (refl, refl); number = omega arith; formed = formed; words = described })
+-- what it knows beside: the same of its attempt, and a clock
+abbrev knowing : PassKnows
+knowing = record {
+  own = record { number = 3; busy = false; withdrew = false; words = stored.attempt.words };
+  ready = true;
+  noted = [];
+  told = clock_was 5 ∷ [];
+}
+
+raising : (a : Changed) → IsAmong a to_raise.changes → RaisesVersionOf (exchange_of to_raise) a.node
+raising a (inl is) = subst (RaisesVersionOf (exchange_of to_raise)) (sym (ap (λ (x : Changed). x.node) is)) record {
+  change = raise;
+  among = inl refl;
+  is_of = (refl, refl);
+  rises = inl (omega arith);
+}
+raising a (inr none) = absurd none
+
+-- where the exchange fits, the pass may publish it as attempt 4
+may_publish : (form : Form) → Fits form 1 (exchange_of to_raise) [] → MayPublish form two knowing (packed (record { number = 4; stage = Undecided }))
+may_publish form fits = (
+  to_raise,
+  5,
+  [],
+  refl,
+  record {
+    rests = refl;
+    room = omega arith;
+    clock = (0, refl);
+    formed = formed;
+    raises = raising;
+    no_visits = refl;
+    described = describes_too 1 to_raise stored.attempt.words described;
+    fits = fits;
+  },
+)
 
 -- and then put the reference of its exchange into the word
 abbrev op : Ref

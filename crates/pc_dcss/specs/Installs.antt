@@ -1,16 +1,15 @@
 -- What clauses say of installs, by what a pass has noted.
-use Rattle.std.specs.Prelude.{◌≡◌, ◌≢◌, ◌⊎◌, ℕ, ◌-◌, ◌^◌, ◌<◌, ◌≤◌, true, ◌∷◌, ◌++◌}
+use Rattle.std.specs.Prelude.{◌≡◌, ◌≢◌, ◌⊎◌, ℕ, ◌-◌, ◌^◌, ◌<◌, ◌≤◌, true, List, ◌∷◌, ◌++◌}
 use Rattle.pc_model.specs.declared.cell.Field.{Field}
 use Rattle.pc_model.specs.declared.numbers.Numbers.{Numbers}
 use Rattle.pc_model.specs.Cells.{IsNode}
-use Rattle.pc_model.specs.Linked.{opening_cells}
 use Rattle.pc_words.specs.declared.word.WordKind.{WordKind}
 use Rattle.pc_words.specs.declared.word.WordKind.TheVariants.{Plain, Install, Exchange}
 use Rattle.pc_words.specs.Words.{raw}
 use Rattle.pc_rule_law.specs.Board.{Size, place_number}
 use Rattle.pc_rule_law.specs.Past.{Has, change}
 use Rattle.pc_rule_law.specs.Plays.{found, IsNotedSince}
-use Rattle.pc_rule_law.specs.Views.{Note, View, entry, placed, install_word, decided_below, held, IsInstall, IsAttempt, NoteInRange}
+use Rattle.pc_rule_law.specs.Views.{Note, View, entry, placed, install_word, decided_below, held, removed, clean, IsInstall, IsAttempt, NoteInRange}
 use Rattle.pc_rule_law.specs.Conditions.{KnowsChange}
 use Rattle.pc_model.specs.declared.cell.Counter.TheVariants.{Install as Installs}
 use Rattle.pc_rule.specs.declared.opening.Place.{Place}
@@ -51,8 +50,8 @@ KnowsNumbers v q k op place old = Has v.notes (install_word q k 1 op) × Has v.n
 abbrev pub last_install : ℕ
 last_install = 2 ^ 54 - 1
 
--- the exchange is known to change this word from the old value: it was given so at the opening, or its numbers are in range
--- and the words of its descriptor that say so are known
+-- the exchange is known to change this word from the old value: it is noted so, or its numbers are in range and the words of
+-- its descriptor that say so are known
 abbrev pub entry_of : Ref → Place → Note
 entry_of op place = entry op.seat op.number (change place.node place.field place.old place.new)
 
@@ -79,11 +78,17 @@ abbrev pub IsMet : View → View → Ref → Place → Ref → Type 0
 IsMet v w op place r = (w.notes ≡ met_note r.kind r.seat r.number place.node place.field ∷ v.notes)
     × IsOther r.kind r.seat r.number w.seat op
 
--- the word had this plain value, which isn't the old one: what is noted of a plain value was noted, and it is the value
--- that the board opened with, since installs change none
+-- it isn't one that the pass knew to be gone: an install that was taken away, or an exchange's of which the word is clean
+abbrev pub IsGone : RefKind → List Note → ℕ → ℕ → ℕ → Field → Type 0
+IsGone AnInstall known seat number n f = Has known (removed seat number)
+IsGone AnExchange known seat number n f = Has known (clean seat number n f)
+
+abbrev pub IsNews : List Note → Place → Ref → Type 0
+IsNews known place r = IsGone r.kind known r.seat r.number place.node place.field → ⊥
+
+-- the word had this plain value, which isn't the old one: what is noted of a plain value was noted
 abbrev pub IsDifferent : View → View → Place → ℕ → Type 0
 IsDifferent v w place x = (x ≢ place.old) × (w.notes ≡ found place.node place.field (Plain x) ++ v.notes)
-    × (x ≡ opening_cells v.size.starts.version place.node place.field)
 
 -- the answer is that there is no number
 abbrev pub IsOutOfNumbers : Installed → Type 0

@@ -4,7 +4,8 @@ ghost use Rattle.pc_rule.specs.declared.refs.RefKind.TheVariants.{Install};
 ghost use Rattle.pc_rule_law.specs.Past.{Has};
 ghost use Rattle.pc_rule_law.specs.Views.{removed};
 ghost use Rattle.pc_rule_law.specs.Plays.{IsLater};
-ghost use Rattle.pc_rule.specs.Passes.{view, IsPassOf, IsSamePass};
+ghost use Rattle.pc_exchange_law.specs.Knowing.{Learns};
+ghost use Rattle.pc_rule.specs.Passes.{view, knows, IsPassOf, IsSamePass};
 ghost use Rattle.pc_dcss.specs.Installs.{HasMet, KnowsNumbers};
 
 use crate::descriptor::words_of;
@@ -26,6 +27,7 @@ fn load_words<H: Shape>(board: &Board<H>, pass: &mut Pass<H>, r: Ref) -> Option<
     requires pass { IsPassOf board.now pass.old }
     requires met { HasMet (view pass.old) r.seat r.number }
     ensures pass { IsSamePass pass.old pass.new }
+    ensures learns { Learns (knows pass.old) (knows pass.new) }
     ensures later { IsLater (view pass.old) (view pass.new) }
     ensures known { IfSome result (λ w. KnowsNumbers (view pass.new) r.seat r.number w.op w.place w.old) }
     ensures removed { IfNone result (Has (view pass.new).notes (removed r.seat r.number)) }
@@ -48,6 +50,7 @@ pub fn complete<H: Shape>(board: &Board<H>, pass: &mut Pass<H>, r: Ref)
     requires install { r.kind ≡ Install }
     requires met { HasMet (view pass.old) r.seat r.number }
     ensures pass { IsSamePass pass.old pass.new }
+    ensures learns { Learns (knows pass.old) (knows pass.new) }
     ensures later { IsLater (view pass.old) (view pass.new) }
     ensures removed { Has (view pass.new).notes (removed r.seat r.number) }
 {

@@ -20,7 +20,7 @@ pub(crate) struct Words {
 }
 
 /// The field with this number.
-pub(crate) fn field_at(number: u64) -> Field
+pub fn field_at(number: u64) -> Field
     requires { number < 8 }
     ensures { field_number result ≡ number }
 {

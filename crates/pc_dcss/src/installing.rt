@@ -7,8 +7,9 @@ ghost use Rattle.pc_rule_law.specs.Plays.{AddsNotes, IsNotedSince};
 ghost use Rattle.pc_rule_law.specs.Views.{held};
 ghost use Rattle.pc_rule_law.specs.Conditions.{IsFree};
 ghost use Rattle.pc_rule.specs.declared.refs.RefKind.TheVariants.{Exchange};
-ghost use Rattle.pc_rule.specs.Passes.{view, board_size, IsPassOf, IsSamePass};
-ghost use Rattle.pc_dcss.specs.Installs.{IsDecidedSince, KnowsPlace, KeepsNotes, KeepsAttempt, IsReady, IsPlaced, IsMet, IsDifferent, HasNoNumber, IsOutOfNumbers, described, word_of, last_install, OnHeld, OnDecided, IfDiffers, IfMet, IfNumbers};
+ghost use Rattle.pc_exchange_law.specs.Knowing.{Learns};
+ghost use Rattle.pc_rule.specs.Passes.{view, knows, board_size, IsPassOf, IsSamePass};
+ghost use Rattle.pc_dcss.specs.Installs.{IsDecidedSince, KnowsPlace, KeepsNotes, KeepsAttempt, IsReady, IsPlaced, IsMet, IsNews, IsDifferent, HasNoNumber, IsOutOfNumbers, described, word_of, last_install, OnHeld, OnDecided, IfDiffers, IfMet, IfNumbers};
 
 use crate::descriptor::{Words, number_of};
 use crate::installed::Installed;
@@ -71,6 +72,7 @@ fn describe<H: Shape>(board: &Board<H>, pass: &mut Pass<H>, number: u64, op: Ref
     requires number { (view pass.old).install.number < number }
     requires op { (op.seat < 32) × (op.number < 2 ^ 28) }
     ensures pass { IsSamePass pass.old pass.new }
+    ensures learns { Learns (knows pass.old) (knows pass.new) }
     ensures told { view pass.new ≡ described (view pass.old) number (raw (ExchangeWord op.seat op.number)) (place_number place.node place.field) place.old }
 {
     let op_word = exchange_ref(op.seat, op.number);
@@ -92,6 +94,7 @@ fn put_install<H: Shape>(
     requires pass { IsPassOf board.now pass.old }
     requires ready { IsReady (view pass.old) own op place }
     ensures pass { IsSamePass pass.old pass.new }
+    ensures learns { Learns (knows pass.old) (knows pass.new) }
     ensures keeps { KeepsNotes (view pass.old) (view pass.new) }
     ensures adds { AddsNotes (view pass.old) (view pass.new) }
     ensures attempt { KeepsAttempt (view pass.old) (view pass.new) }
@@ -102,6 +105,7 @@ fn put_install<H: Shape>(
     ensures decided { IfErr result (λ i. OnDecided i ⊥) }
     ensures differs { IfErr result (λ i. IfDiffers i (IsDifferent (view pass.old) (view pass.new) place)) }
     ensures met { IfErr result (λ i. IfMet i (λ r. IsMet (view pass.old) (view pass.new) op place r)) }
+    ensures fresh { IfErr result (λ i. IfMet i (IsNews (view pass.old).notes place)) }
     ensures numbers { IfErr result (λ i. IfNumbers i (λ n. ⊥)) }
 {
     let old = plain(place.old);
@@ -128,6 +132,7 @@ pub fn place_install<H: Shape>(
     requires exchange { op.kind ≡ Exchange }
     requires place { KnowsPlace (view pass.old) op place }
     ensures pass { IsSamePass pass.old pass.new }
+    ensures learns { Learns (knows pass.old) (knows pass.new) }
     ensures keeps { KeepsNotes (view pass.old) (view pass.new) }
     ensures adds { AddsNotes (view pass.old) (view pass.new) }
     ensures attempt { KeepsAttempt (view pass.old) (view pass.new) }
@@ -138,6 +143,7 @@ pub fn place_install<H: Shape>(
     ensures decided { IfErr result (λ i. OnDecided i (IsDecidedSince (view pass.old) (view pass.new) op.seat op.number)) }
     ensures differs { IfErr result (λ i. IfDiffers i (IsDifferent (view pass.old) (view pass.new) place)) }
     ensures met { IfErr result (λ i. IfMet i (λ r. IsMet (view pass.old) (view pass.new) op place r)) }
+    ensures fresh { IfErr result (λ i. IfMet i (IsNews (view pass.old).notes place)) }
     ensures numbers { IfErr result (λ i. IfNumbers i (HasNoNumber (view pass.old) (view pass.new))) }
     ensures last { last_install ≤ (view pass.old).install.number → IsErrAnd result IsOutOfNumbers }
 {
@@ -166,6 +172,7 @@ pub fn install<H: Shape>(board: &Board<H>, pass: &mut Pass<H>, op: Ref, place: P
     requires exchange { op.kind ≡ Exchange }
     requires place { KnowsPlace (view pass.old) op place }
     ensures pass { IsSamePass pass.old pass.new }
+    ensures learns { Learns (knows pass.old) (knows pass.new) }
     ensures keeps { KeepsNotes (view pass.old) (view pass.new) }
     ensures adds { AddsNotes (view pass.old) (view pass.new) }
     ensures attempt { KeepsAttempt (view pass.old) (view pass.new) }
@@ -175,6 +182,7 @@ pub fn install<H: Shape>(board: &Board<H>, pass: &mut Pass<H>, op: Ref, place: P
     ensures decided { OnDecided result (IsDecidedSince (view pass.old) (view pass.new) op.seat op.number) }
     ensures differs { IfDiffers result (IsDifferent (view pass.old) (view pass.new) place) }
     ensures met { IfMet result (λ r. IsMet (view pass.old) (view pass.new) op place r) }
+    ensures fresh { IfMet result (IsNews (view pass.old).notes place) }
     ensures numbers { IfNumbers result (HasNoNumber (view pass.old) (view pass.new)) }
     ensures last { last_install ≤ (view pass.old).install.number → IsOutOfNumbers result }
 {

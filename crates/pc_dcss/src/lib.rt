@@ -11,6 +11,7 @@ mod installing;
 mod taking;
 
 pub use completing::complete;
+pub use descriptor::field_at;
 pub use installed::Installed;
 pub use installing::{install, place_install};
 pub use pc_rule::{Place, Ref, RefKind};

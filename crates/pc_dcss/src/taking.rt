@@ -6,7 +6,8 @@ ghost use Rattle.pc_rule_law.specs.Past.{Has};
 ghost use Rattle.pc_rule_law.specs.Stages.{IsOpen, decided_by};
 ghost use Rattle.pc_rule_law.specs.Views.{early, removed, held};
 ghost use Rattle.pc_rule_law.specs.Plays.{IsLater, IsNotedSince};
-ghost use Rattle.pc_rule.specs.Passes.{view, board_size, IsPassOf, IsSamePass};
+ghost use Rattle.pc_exchange_law.specs.Knowing.{Learns};
+ghost use Rattle.pc_rule.specs.Passes.{view, knows, board_size, IsPassOf, IsSamePass};
 ghost use Rattle.pc_dcss.specs.Installs.{IsDecided, IsDecidedSince, KnowsWords, OnHeld, OnDecided, IsEnd};
 
 use crate::descriptor::Words;
@@ -41,6 +42,7 @@ fn put_reference<H: Shape>(
     requires known { KnowsWords (board_size board.now) (view pass.old) install.seat install.number words.op.seat words.op.number words.node words.field words.old }
     requires early { Has (view pass.old).notes (early install.seat install.number) }
     ensures pass { IsSamePass pass.old pass.new }
+    ensures learns { Learns (knows pass.old) (knows pass.new) }
     ensures later { IsLater (view pass.old) (view pass.new) }
     ensures removed { Has (view pass.new).notes (removed install.seat install.number) }
     ensures end { IsEnd result }
@@ -65,6 +67,7 @@ fn put_value<H: Shape>(board: &Board<H>, pass: &mut Pass<H>, install: Ref, words
     requires known { KnowsWords (board_size board.now) (view pass.old) install.seat install.number words.op.seat words.op.number words.node words.field words.old }
     requires decided { IsDecided (view pass.old) words.op.seat words.op.number }
     ensures pass { IsSamePass pass.old pass.new }
+    ensures learns { Learns (knows pass.old) (knows pass.new) }
     ensures later { IsLater (view pass.old) (view pass.new) }
     ensures removed { Has (view pass.new).notes (removed install.seat install.number) }
 {
@@ -83,6 +86,7 @@ pub(crate) fn take<H: Shape>(
     requires pass { IsPassOf board.now pass.old }
     requires known { KnowsWords (board_size board.now) (view pass.old) install.seat install.number words.op.seat words.op.number words.node words.field words.old }
     ensures pass { IsSamePass pass.old pass.new }
+    ensures learns { Learns (knows pass.old) (knows pass.new) }
     ensures later { IsLater (view pass.old) (view pass.new) }
     ensures removed { Has (view pass.new).notes (removed install.seat install.number) }
     ensures end { IsEnd result }

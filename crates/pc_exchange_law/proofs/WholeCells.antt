@@ -16,6 +16,7 @@ use Rattle.pc_rule_law.specs.Past.{Has, Placing, Past}
 use Rattle.pc_rule_law.specs.Plays.{SameSeat, found}
 use Rattle.pc_rule_law.specs.Stages.{IsOpen}
 use Rattle.pc_rule_law.specs.Views.{Note, clean, IsClean, NoteHolds, AllNotes, with_notes}
+use Rattle.pc_rule_law.proofs.InstallPlacing.{not_removed}
 use Rattle.pc_rule_law.proofs.Keeping.{noted_more}
 use Rattle.pc_rule_law.proofs.Learning.{later_more}
 use Rattle.pc_rule_law.proofs.Lists.{has_first, has_left, has_right, all_both, all_none, all_one}
@@ -135,6 +136,8 @@ module _ (form : Form) (z : Size) where
             aim = refl;
             cleans = λ other calmed. has_left more x.view.notes (clean x.view.seat a n f)
                 (has_left cleaned.0 (found n f w) (clean x.view.seat a n f) (truly other calmed));
+            present = λ q j found_it has. not_removed (IsSound form) z b t x.view n f s
+                (k.kept.each_view id x.view (at_view form z b t h late views k id x at live)).noted q j (sym same ∙ found_it) has;
           },
         ),
       )

@@ -32,6 +32,7 @@ module _ (form : Form) (z : Size) where
         history = h;
         begins = k.opened;
         run = subst (λ (u : Board). RunTells u t h) (sym c.1) run;
+        exchanges = k.world.tied.exchanges;
         scripts = subst (λ (u : Board). AreScripts z.slots u t t.words) (sym c.1) k.world.scripts;
         noted = subst (λ (u : Board). (n : AttemptNote) → Has x.knows.noted n → IsTrueAttemptNote u t t.words n) (sym c.1) known.noted;
         told = known.told;

@@ -82,6 +82,7 @@ formed : IsFormed 1 to_put
 formed = record {
   few = omega arith;
   few_visits = omega arith;
+  no_visits = refl;
   inside = each_change (λ x. ((1 ≤ x.node) × (x.node ≤ 2)) × (x.old < 2 ^ 62) × (x.new < 2 ^ 62))
       ((omega arith, omega arith), omega arith, omega arith) ((omega arith, omega arith), omega arith, omega arith);
   apart = λ i j x y at_i at_j node field. ⊎_elim

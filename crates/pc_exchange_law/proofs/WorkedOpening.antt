@@ -58,6 +58,7 @@ pub formed : IsFormed 1 to_raise
 formed = record {
   few = omega arith;
   few_visits = omega arith;
+  no_visits = refl;
   inside = all_one (λ x. ((1 ≤ x.node) × (x.node ≤ 2)) × (x.old < 2 ^ 62) × (x.new < 2 ^ 62)) raise
       ((omega arith, omega arith), omega arith, omega arith);
   apart = λ i j x y at_i at_j _ _. let e = the_change i x at_i in let d = the_change j y at_j in omega arith;
@@ -78,6 +79,7 @@ pub empty_formed : IsFormed 1 (attempt_of [])
 empty_formed = record {
   few = omega arith;
   few_visits = omega arith;
+  no_visits = refl;
   inside = λ x has. absurd (none_has x has);
   apart = λ i j x y at. absurd (some-ne-none x (sym at));
 }

@@ -11,7 +11,7 @@ use Rattle.pc_words.specs.Words.{kind, IsWord}
 use Rattle.pc_words.specs.Statuses.{unpacked, IsStatus}
 use Rattle.pc_rule_law.specs.Board.{own_status, own_install, own_word, Place, at_clock, at_own, at_cell}
 use Rattle.pc_rule_law.specs.Past.{Has, Attempt, Describes}
-use Rattle.pc_rule_law.specs.Views.{Note, decided_below, clean, View, with_notes}
+use Rattle.pc_rule_law.specs.Views.{Note, decided_below, clean, removed, View, with_notes}
 use Rattle.pc_rule_law.specs.Plays.{IsNotedSince, IsLater, IsWell, Told, SameSeat, found, after_store, InstallLoaded, ClockLoaded}
 use Rattle.pc_rule_law.specs.Plays.{DescriptorLoaded as ViewLoaded, StatusLoaded, InstallTried, InstallTaken, after_write, after_publish}
 use Rattle.pc_protocol.specs.Histories.{withdrawn, ended, changed, locked, Stage, absent, undecided, committed, aborted}
@@ -77,6 +77,8 @@ pub record CellSeen (x : Whole) (n : ℕ) (f : Field) (r : ℕ) (y : Whole) : Ty
   pub cleans : kind r ≢ Exchange x.view.seat x.knows.own.number
       → IsFoundCalm x.knows x.view.seat x.knows.own.number n f (kind r)
       → Has y.view.notes (clean x.view.seat x.knows.own.number n f)
+  -- an install that stands there isn't one that is known to be gone
+  pub present : (q k : ℕ) → kind r ≡ Install q k → Has x.view.notes (removed q k) → ⊥
 
 abbrev pub SeesCell : Whole → ℕ → Whole → Place → Type 0
 SeesCell x r y (at_cell n f) = CellSeen x n f r y

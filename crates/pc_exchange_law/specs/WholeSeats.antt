@@ -1,5 +1,5 @@
 -- How passes are made and joined under the whole rule, and what a closed board is.
-use Rattle.std.specs.Prelude.{◌≡◌, ℕ, false, List, [], ◌++◌}
+use Rattle.std.specs.Prelude.{◌≡◌, ℕ, ◌<◌, false, List, [], ◌++◌}
 use Rattle.pc_model.specs.declared.cell.Field.{Field}
 use Rattle.pc_model.specs.Forms.{Form, IsSound}
 use Rattle.pc_model.specs.Linked.{opening_cells}
@@ -8,10 +8,11 @@ use Rattle.pc_rule_law.specs.Board.{Size}
 use Rattle.pc_rule_law.specs.Closings.{IsClosed}
 use Rattle.pc_rule_law.specs.Past.{Has, Past}
 use Rattle.pc_rule_law.specs.Seats.{new_view, maker, made_by, joined_by, spent_view}
-use Rattle.pc_protocol.specs.Histories.{History}
+use Rattle.pc_protocol.specs.Histories.{History, IsPublished}
 use Rattle.pc_protocol.specs.Notes.{Note, IsTrueNote}
 use Rattle.pc_exchange_law.specs.Attempts.{AreScripts, AttemptNote, IsTrueAttemptNote}
 use Rattle.pc_exchange_law.specs.Passes.{PassKnows}
+use Rattle.pc_exchange_law.specs.Ties.{code, exchange_of}
 use Rattle.pc_exchange_law.specs.TieLaws.{RunTells, run_up_to}
 use Rattle.pc_exchange_law.specs.Wholes.{Whole, knows_nothing}
 
@@ -43,6 +44,7 @@ pub record IsWholeClosed (form : Form) (z : Size) (k : PassKnows) (words : List 
   pub begins : (n : ℕ) (f : Field) → history.opening n f ≡ opening_cells z.starts.version n f
   pub run : RunTells closed.board past history
   pub leaves : (n : ℕ) (f : Field) → cells_after history.opening (run_up_to history) n f ≡ closed.cells n f
+  pub exchanges : (p a : ℕ) → p < 64 → IsPublished (history.stage (code p a)) → history.op (code p a) ≡ exchange_of (past.attempt p a)
   pub scripts : AreScripts z.slots closed.board past past.words
   pub noted : (n : AttemptNote) → Has k.noted n → IsTrueAttemptNote closed.board past past.words n
   pub told : (n : Note) → Has k.told n → IsTrueNote history n

@@ -4,7 +4,7 @@
 //!
 //! Beside it stand what a pass will know of attempts, its own and those of others, and what it has to know before each
 //! step of an exchange; and the whole rule of a board on which passes publish exchanges, which is the rule of installs and
-//! this, with a lemma for each kind of step. No function makes these steps yet.
+//! this, with a lemma for each kind of step. The functions that make these steps stand in `pc_rule`.
 #![tactic(auto)]
 
 mod laws;

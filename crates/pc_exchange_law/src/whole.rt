@@ -1,5 +1,5 @@
 //! The whole rule of a board as the rule of a table: what a pass knows, what each kind of step tells it, and how passes are
-//! made and joined. These types are for the proofs alone, and no function uses them yet.
+//! made and joined. These types are for the proofs alone.
 ghost use Rattle.pc_exchange_law.specs.Wholes.{WholeHolds};
 ghost use Rattle.pc_exchange_law.specs.WholeSeats.{first_whole, whole_maker, whole_made, whole_joined, whole_spent};
 ghost use Rattle.pc_exchange_law.specs.WholeSteps.{whole_loads_clock, whole_loads_word, whole_loads_status, whole_loads_install};

@@ -3,20 +3,33 @@
 use Rattle.std.proofs.Common.{◌≡◌, ◌≢◌, ℕ, zero, suc, ◌+◌, ◌*◌, ◌^◌, ◌<◌, true, false, List, [], ◌∷◌, length, map, refl, sym, ap, ap₂, ◌∙◌, subst, inl, inr, ⊎_elim, arith}
 use Rattle.std.proofs.lemmas.Bool.{cases_order}
 use Rattle.std.proofs.lemmas.List.{length-map}
+use Rattle.std.proofs.lemmas.List.Sorted.{All-permutation, IsPermutation-sym}
+use Rattle.std.specs.List.Sorted.{IsPermutation}
 use mathlib.Core.Option.{some, some-injective, some-ne-none}
 use lib.ListN.{get_elem?}
+use Rattle.pc_model.specs.declared.cell.Field.TheVariants.{Version}
 use Rattle.pc_model.specs.Cells.{IsNode}
+use Rattle.pc_model.specs.Forms.{Form, Fits}
 use Rattle.pc_model.specs.Exchanges.{Changed}
 use Rattle.pc_words.specs.declared.status.Stage.TheVariants.{Undecided}
 use Rattle.pc_words.specs.Statuses.{packed}
-use Rattle.pc_rule_law.specs.Board.{place_number, descriptor_words}
+use Rattle.pc_rule_law.specs.Board.{Size, place_number, descriptor_words}
 use Rattle.pc_rule_law.specs.Conditions.{IsFree, CanWrite, KnowsWord, KnowsChange}
 use Rattle.pc_rule_law.specs.Openings.{attempt_of}
 use Rattle.pc_rule_law.specs.Past.{Has, Describes, IsFormed}
 use Rattle.pc_rule_law.specs.Plays.{after_publish}
 use Rattle.pc_rule_law.specs.Views.{Note, View, clock_at, removed, word_in, with_notes}
 use Rattle.pc_rule_law.proofs.Lists.{below_length, has_later}
+use Rattle.pc_protocol.specs.Notes.{clock_was}
+use Rattle.pc_exchange_law.specs.Attempts.{word_in as known_word_in}
+use Rattle.pc_exchange_law.specs.Changes.{RaisesNodes}
+use Rattle.pc_exchange_law.specs.Ties.{exchange_of}
+use Rattle.pc_exchange_law.specs.Wholes.{Whole}
+use Rattle.pc_exchange_law.proofs.ChangeLists.{among_has, has_among}
 use Rattle.pc_rule.specs.declared.opening.Place.{Place}
+use Rattle.pc_rule.specs.Attempts.{AgreeOnAttempt}
+use Rattle.pc_rule.proofs.Attempts.{describes_too}
+use Rattle.pc_rule.proofs.Starting.{element}
 use Rattle.pc_rule.specs.declared.refs.Ref.{Ref}
 use Rattle.pc_rule.specs.Conditions.{MayPublish}
 use Rattle.pc_rule.specs.Listed.{word_number, FitsWord, AreListed}
@@ -24,9 +37,9 @@ use Rattle.pc_rule.specs.Starting.{change_of}
 use Rattle.pc_rule.proofs.Calls.{read_at}
 use Rattle.pc_rule.proofs.Sharing.{from_map}
 use Rattle.pc_dcss.specs.Installs.{KnowsPlace}
-use Rattle.pc_kcas.specs.Exchanges.{ListsTo, OnlyPublished, HasPublished}
+use Rattle.pc_kcas.specs.Exchanges.{ListsTo, RaisesVersions, FitsInEachOrder, OnlyPublished, HasPublished}
 
-listed_as : (places : List Place) (i : ℕ) (p : Place) → get_elem? places i ≡ some p → get_elem? (map change_of places) i ≡ some (change_of p)
+pub listed_as : (places : List Place) (i : ℕ) (p : Place) → get_elem? places i ≡ some p → get_elem? (map change_of places) i ≡ some (change_of p)
 listed_as [] i p at = absurd (some-ne-none p (sym at))
 listed_as (q ∷ places) zero p at = ap (λ (r : Place). some (change_of r)) (some-injective q p at)
 listed_as (q ∷ places) (suc i) p at = listed_as places i p at
@@ -61,6 +74,7 @@ module _ (slots : ℕ) (places : List Place) (all : AreListed slots places) wher
   formed = record {
     few = (let n = length-map places change_of in let few = all.few in omega arith);
     few_visits = omega arith;
+    no_visits = refl;
     inside = λ x has. let p = from_map change_of places has.0 x has.1 in
         subst (λ (y : Changed). IsNode slots y.node × (y.old < 2 ^ 62) × (y.new < 2 ^ 62)) p.2 (fits_at has.0 p.0 p.1);
     apart = λ i j x y at_x at_y node field. let p = from_map change_of places i x at_x in let q = from_map change_of places j y at_y in
@@ -81,19 +95,50 @@ only_published v u t w r words looked wrote told =
       published = refl;
     }
 
--- the words that were stored may be published
-pub may_publish : (v : View) (places : List Place) (new : ℕ) → CanWrite v → v.attempt.number + 1 < 2 ^ 28 → AreListed v.size.slots places
-    → ListsTo places (word_in v.attempt.words) (length places) → new ≡ packed (record { number = v.attempt.number + 1; stage = Undecided }) → MayPublish v new
-may_publish v places new may lt all so is = (
-  attempt_of (map change_of places),
-  is,
-  record {
-    may = may;
-    number = lt;
-    formed = formed v.size.slots places all;
-    words = describes v.size.slots places (word_in v.attempt.words) so;
-  },
-)
+-- a place of a list is in the list in another order
+has_in_order : (old new : List Place) → IsPermutation old new → (v : Place) → Has old v → Has new v
+has_in_order old new same v h = subst (Has new) (read_at old h.0 v v h.1)
+    (All-permutation (Has new) new old (IsPermutation-sym old new same) (λ k d lt. (k, element new k d lt)) h.0 v (below_length old h.0 v h.1))
+
+abbrev RaisesItsNode : List Place → Place → Type 0
+RaisesItsNode places p = (v : Place) × Has places v × (v.node ≡ p.node) × (v.field ≡ Version) × (v.new ≡ v.old + 2)
+
+-- the attempt raises its nodes in each order of its words
+raises_nodes : (old new : List Place) → IsPermutation old new → RaisesVersions old → RaisesNodes (attempt_of (map change_of new))
+raises_nodes old new same raises a among = let has = among_has (map change_of new) a among in let p = from_map change_of new has.0 a has.1 in
+    let r : RaisesItsNode old p.0 = subst (RaisesItsNode old) (read_at new has.0 p.0 p.0 p.1)
+    (All-permutation (RaisesItsNode old) old new same raises has.0 p.0 (below_length new has.0 p.0 p.1)) in
+    let v : Place = r.0 in let more : v.new ≡ v.old + 2 = r.4 in let there = has_in_order old new same v r.1 in record {
+      change = change_of v;
+      among = has_among (map change_of new) (change_of v) (there.0, listed_as new there.0 v there.1);
+      is_of = (r.2 ∙ ap (λ (c : Changed). c.node) p.2, r.3);
+      rises = inl (omega arith);
+    }
+
+-- the words that were stored may be published: those of a list, in some order
+pub may_publish : (form : Form) (z : Size) (x : Whole) (old new : List Place) (c status : ℕ) → AgreeOnAttempt x → CanWrite x.view → x.view.size ≡ z
+    → x.view.attempt.number + 1 < 2 ^ 28 → AreListed x.view.size.slots new → IsPermutation old new → RaisesVersions old → FitsInEachOrder form x.view.size.slots old
+    → Has x.knows.told (clock_was c) → ListsTo new (word_in x.view.attempt.words) (length new)
+    → status ≡ packed (record { number = x.view.attempt.number + 1; stage = Undecided }) → MayPublish form z x.knows status
+may_publish form z x old new c status agree may sized lt all same raises fit clock so is =
+    let slots : x.view.size.slots ≡ z.slots = ap (λ (y : Size). y.slots) sized in
+    let fits = fit new same in (
+      attempt_of (map change_of new),
+      c,
+      fits.0,
+      is ∙ ap (λ (n : ℕ). packed (record { number = n + 1; stage = Undecided })) (sym agree.number),
+      record {
+        rests = agree.busy ∙ may.1;
+        room = subst (λ (n : ℕ). n + 1 < 2 ^ 28) (sym agree.number) lt;
+        clock = clock;
+        formed = subst (λ (s : ℕ). IsFormed s (attempt_of (map change_of new))) slots (formed x.view.size.slots new all);
+        raises = raises_nodes old new same raises;
+        no_visits = refl;
+        described = subst (λ (l : List (ℕ × ℕ)). Describes z.slots (attempt_of (map change_of new)) (known_word_in l)) (sym agree.words)
+            (describes_too z.slots (attempt_of (map change_of new)) x.view.attempt.words (describes z.slots new (word_in x.view.attempt.words) so));
+        fits = subst (λ (s : ℕ). Fits form s (exchange_of (attempt_of (map change_of new))) fits.0) slots fits.1;
+      },
+    )
 
 pub has_published : (v w : View) (places : List Place) → w ≡ after_publish v → v.posted ≡ false → v.attempt.number + 1 < 2 ^ 28
     → ListsTo places (word_in v.attempt.words) (length places) → HasPublished w places

@@ -5,11 +5,12 @@ use mathlib.Core.Option.{some, some-injective}
 use lib.ListN.{get_elem?}
 use native.Mathlib.Decide.{ℕ_discrete}
 use Rattle.std.proofs.lemmas.Bool.Decides.{nat_tests}
+use Rattle.pc_exchange_law.specs.Passes.{PassKnows}
 use Rattle.pc_rule_law.specs.Views.{View, word_in}
 use Rattle.pc_rule.specs.declared.opening.Place.{Place}
 use Rattle.pc_rule.specs.Listed.{word_number}
 use Rattle.pc_rule.proofs.Starting.{element}
-use Rattle.pc_kcas.specs.Exchanges.{ListsTo, OnlyWrote, counts_written, change_written}
+use Rattle.pc_kcas.specs.Exchanges.{ListsTo, OnlyWrote, OnlyStored, counts_written, change_written, counts_stored, change_stored}
 
 -- of three words that were stored each is what it is, and the others are what they were
 three_words : (words : List (ℕ × ℕ)) (a b c x y z k : ℕ) → b ≡ a + 1 → c ≡ a + 2
@@ -69,6 +70,13 @@ only_counts v w count e = subst (OnlyWrote v) (sym e) refl
 pub only_next : (v u w : View) (i : ℕ) (p : Place) → OnlyWrote v u → w ≡ change_written u i p → OnlyWrote v w
 only_next v u w i p so e = subst (OnlyWrote v) (sym e)
     (ap (λ (x : View). record x { attempt = record x.attempt { words = with_change u.attempt.words i p } }) so)
+
+pub stored_counts : (k k' : PassKnows) (count : ℕ) → k' ≡ counts_stored k count → OnlyStored k k'
+stored_counts k k' count e = subst (OnlyStored k) (sym e) refl
+
+pub stored_next : (k u k' : PassKnows) (i : ℕ) (p : Place) → OnlyStored k u → k' ≡ change_stored u i p → OnlyStored k k'
+stored_next k u k' i p so e = subst (OnlyStored k) (sym e)
+    (ap (λ (x : PassKnows). record x { own = record x.own { words = with_change u.own.words i p } }) so)
 
 -- one change more is stored, as it is read from the list
 pub lists_written : (old now new : List Place) (u w : View) (i : ℕ) (d : Place) → now ≡ old → new ≡ old → i < length now

@@ -1,11 +1,16 @@
 -- What clauses say of an exchange of several words, from its list to its installs.
 use Rattle.std.specs.Prelude.{◌≡◌, ℕ, ◌+◌, ◌*◌, ◌-◌, ◌^◌, ◌<◌, true, false, List, ◌∷◌, length, map}
 use Rattle.std.specs.List.{All}
+use Rattle.std.specs.List.Sorted.{IsPermutation}
 use mathlib.Core.Option.{some}
 use lib.ListN.{get_elem?}
 use Rattle.pc_model.specs.declared.cell.Field.TheVariants.{Version}
 use Rattle.pc_model.specs.declared.shape.Shape.{Ghosts}
 use Rattle.pc_model.specs.Cells.{IsEven}
+use Rattle.pc_model.specs.Forms.{Form, Fits}
+use Rattle.pc_exchange_law.specs.Knowing.{after_own_store}
+use Rattle.pc_exchange_law.specs.Passes.{PassKnows}
+use Rattle.pc_exchange_law.specs.Ties.{exchange_of}
 use Rattle.pc_rule_law.specs.Openings.{attempt_of}
 use Rattle.pc_rule_law.specs.Past.{Has, Describes}
 use Rattle.pc_rule_law.specs.Plays.{after_write, AddsNotes, IsNotedSince}
@@ -28,6 +33,11 @@ IsFromEven p = p.field ≡ Version → IsEven p.old
 abbrev pub RaisesVersions : List Place → Type 0
 RaisesVersions places = All (λ p. (v : Place) × Has places v × (v.node ≡ p.node) × (v.field ≡ Version) × (v.new ≡ v.old + 2)) places
 
+-- in each order of these words, the exchange that changes them leaves sound cells, and some keys are charged
+abbrev pub FitsInEachOrder : Form → ℕ → List Place → Type 0
+FitsInEachOrder form slots places = (ordered : List Place) → IsPermutation places ordered
+    → (keys : List ℕ) × Fits form slots (exchange_of (attempt_of (map change_of ordered))) keys
+
 -- the last number of an attempt
 abbrev pub last_attempt : ℕ
 last_attempt = 2 ^ 28 - 1
@@ -44,12 +54,21 @@ pub record ListsTo (places : List Place) (word : ℕ → ℕ) (i : ℕ) : Type 0
 abbrev pub OnlyWrote : View → View → Type 0
 OnlyWrote v w = w ≡ record v { attempt = record v.attempt { words = w.attempt.words } }
 
+abbrev pub OnlyStored : PassKnows → PassKnows → Type 0
+OnlyStored k k' = k' ≡ record k { own = record k.own { words = k'.own.words } }
+
 -- after stores of the mode and the two counts, and of the three words of one change
 abbrev pub counts_written : View → ℕ → View
 counts_written v count = after_write (after_write (after_write v 0 0) 1 count) 2 0
 
 abbrev pub change_written : View → ℕ → Place → View
 change_written v i p = after_write (after_write (after_write v (3 + 3 * i) (word_number p)) (4 + 3 * i) p.old) (5 + 3 * i) p.new
+
+abbrev pub counts_stored : PassKnows → ℕ → PassKnows
+counts_stored k count = after_own_store (after_own_store (after_own_store k 0 0) 1 count) 2 0
+
+abbrev pub change_stored : PassKnows → ℕ → Place → PassKnows
+change_stored k i p = after_own_store (after_own_store (after_own_store k (3 + 3 * i) (word_number p)) (4 + 3 * i) p.old) (5 + 3 * i) p.new
 
 -- the pass has one attempt more, which is published, and loaded the clock, and is otherwise as it was
 pub record OnlyPublished (v w : View) : Type 0 where

@@ -12,7 +12,7 @@ use pc_model::Shape;
 use pc_rule::{Board, Pass, Ref, RefKind};
 
 // Whether this is the answer that the word held the reference.
-fn is_held(answer: Installed) -> bool
+pub(crate) fn is_held(answer: Installed) -> bool
     ensures held { result ≡ true → answer ≡ Held }
     ensures other { result ≡ false → OnHeld answer ⊥ }
 {

@@ -6,7 +6,7 @@ ghost use Rattle.pc_rule_law.specs.Conditions.{CanWrite};
 ghost use Rattle.pc_rule.specs.Listed.{word_number};
 ghost use Rattle.pc_rule.specs.Passes.{view, listed, IsPassOf, IsSeatedAs};
 ghost use Rattle.pc_kcas.specs.declared.mode.Mode.TheVariants.{Words};
-ghost use Rattle.pc_kcas.specs.Exchanges.{RaisesVersions, OnlyPublished, IsPublished, KnowsListed, last_attempt};
+ghost use Rattle.pc_kcas.specs.Exchanges.{RaisesVersions, FitsInEachOrder, OnlyPublished, IsPublished, KnowsListed, last_attempt};
 
 use crate::mode::Mode;
 use crate::writing::write_listed;
@@ -27,6 +27,7 @@ pub fn publish<H: Shape>(board: &Board<H>, pass: &mut Pass<H>, mode: Mode) -> Re
     requires open { CanWrite (view pass.old) }
     requires some { 0 < length (listed pass.old) }
     requires raises { RaisesVersions (listed pass.old) }
+    requires fits { FitsInEachOrder H.form (view pass.old).size.slots (listed pass.old) }
     requires mode { mode ≡ Words }
     ensures seated { IsSeatedAs pass.old pass.new }
     ensures only { OnOk result (OnlyPublished (view pass.old) (view pass.new)) }

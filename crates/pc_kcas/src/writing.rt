@@ -3,8 +3,8 @@
 ghost use Rattle.std.specs.Prelude.{◌≡◌, ◌<◌, ◌≤◌, length};
 ghost use Rattle.pc_rule_law.specs.Conditions.{CanWrite};
 ghost use Rattle.pc_rule_law.specs.Views.{word_in};
-ghost use Rattle.pc_rule.specs.Passes.{view, listed, IsPassOf, IsSamePass};
-ghost use Rattle.pc_kcas.specs.Exchanges.{ListsTo, OnlyWrote, counts_written, change_written};
+ghost use Rattle.pc_rule.specs.Passes.{view, knows, listed, IsPassOf, IsSamePass};
+ghost use Rattle.pc_kcas.specs.Exchanges.{ListsTo, OnlyWrote, OnlyStored, counts_written, change_written, counts_stored, change_stored};
 
 use pc_model::Shape;
 use pc_rule::{Board, Pass, Place, step_10};
@@ -15,6 +15,7 @@ fn write_counts<H: Shape>(board: &Board<H>, pass: &mut Pass<H>, count: u32)
     requires may { CanWrite (view pass.old) }
     ensures pass { IsSamePass pass.old pass.new }
     ensures told { view pass.new ≡ counts_written (view pass.old) count }
+    ensures learnt { knows pass.new ≡ counts_stored (knows pass.old) count }
 {
     step_10(board, pass, 0, 0);
     step_10(board, pass, 1, u64::from(count));
@@ -28,6 +29,7 @@ fn write_change<H: Shape>(board: &Board<H>, pass: &mut Pass<H>, i: u32, place: P
     requires few { i < 24 }
     ensures pass { IsSamePass pass.old pass.new }
     ensures told { view pass.new ≡ change_written (view pass.old) i place }
+    ensures learnt { knows pass.new ≡ change_stored (knows pass.old) i place }
 {
     step_10(board, pass, 3 + 3 * i, place.number());
     step_10(board, pass, 4 + 3 * i, place.old);
@@ -40,6 +42,7 @@ pub(crate) fn write_listed<H: Shape>(board: &Board<H>, pass: &mut Pass<H>)
     requires may { CanWrite (view pass.old) }
     ensures pass { IsSamePass pass.old pass.new }
     ensures only { OnlyWrote (view pass.old) (view pass.new) }
+    ensures beside { OnlyStored (knows pass.old) (knows pass.new) }
     ensures words { ListsTo (listed pass.new) (word_in (view pass.new).attempt.words) (length (listed pass.new)) }
 {
     let count = pass.listed().len() as u32;

@@ -25,7 +25,7 @@ read_at (x ∷ xs) (suc i) v d at = read_at xs i v d at
 module _ {H : Type 0} {S : Ghosts H} where
   -- a pass whose list alone changed is where it was
   pub only_listed : (b : Board H) (p q : Pass H S) → IsPassOf b p → OnlyListed p q → IsSeatedAs p q
-  only_listed b p q of only = let e : view q ≡ view p = ap (λ s. s.me.0) only.0 in (
+  only_listed b p q of only = let e : view q ≡ view p = ap (λ s. s.me.0.view) only.0 in (
     ap (λ s. s.table_id) only.0,
     ap (λ (v : View). v.size) e,
     ap (λ (v : View). v.seat) e,

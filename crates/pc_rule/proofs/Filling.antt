@@ -6,12 +6,11 @@ use Rattle.pc_rule_law.specs.declared.opening.Opening.{Opening}
 use Rattle.pc_rule_law.specs.Board.{Place, address, words_of, Inside, shows, Represents}
 use Rattle.pc_rule_law.specs.Tables.{size_of}
 use Rattle.pc_rule_law.proofs.Places.{within}
-use Rattle.pc_rule.specs.declared.opening.Posted.{Posted}
 use Rattle.pc_rule.specs.Starting.{starting_board}
 
 -- each word so far is what its place shows
-abbrev pub AreWritten : Opening → List Posted → List ℕ → Type 0
-AreWritten o posted words = (p : Place) → Inside (size_of o) p → address (size_of o) p < length words → get_or words (address (size_of o) p) 0 ≡ shows (starting_board o posted) p
+abbrev pub AreWritten : Opening → List ℕ → Type 0
+AreWritten o words = (p : Place) → Inside (size_of o) p → address (size_of o) p < length words → get_or words (address (size_of o) p) 0 ≡ shows (starting_board o) p
 
 last_of : (l : List ℕ) (x : ℕ) → get_or (l ++ x ∷ []) (length l) 0 ≡ x
 last_of [] x = refl
@@ -26,14 +25,14 @@ longer : (l : List ℕ) (x : ℕ) → length (l ++ x ∷ []) ≡ length l + 1
 longer [] x = refl
 longer (y ∷ ys) x = let e = longer ys x in omega arith
 
-pub one_more_written : (o : Opening) (posted : List Posted) (words : List ℕ) (x : ℕ) → AreWritten o posted words
-    → ((p : Place) → Inside (size_of o) p → address (size_of o) p ≡ length words → x ≡ shows (starting_board o posted) p) → AreWritten o posted (words ++ x ∷ [])
-one_more_written o posted words x written next p in_p lt = dite (ℕ_discrete (address (size_of o) p) (length words))
+pub one_more_written : (o : Opening) (words : List ℕ) (x : ℕ) → AreWritten o words
+    → ((p : Place) → Inside (size_of o) p → address (size_of o) p ≡ length words → x ≡ shows (starting_board o) p) → AreWritten o (words ++ x ∷ [])
+one_more_written o words x written next p in_p lt = dite (ℕ_discrete (address (size_of o) p) (length words))
     (λ e. ap (λ (i : ℕ). get_or (words ++ x ∷ []) i 0) e ∙ (last_of words x ∙ next p in_p e))
     (λ ne. let more = longer words x in let less : address (size_of o) p < length words = omega arith in front_of words x (address (size_of o) p) less ∙ written p in_p less)
 
-pub none_written : (o : Opening) (posted : List Posted) → AreWritten o posted []
-none_written o posted p in_p lt = absurd (omega arith)
+pub none_written : (o : Opening) → AreWritten o []
+none_written o p in_p lt = absurd (omega arith)
 
-pub all_written : (o : Opening) (posted : List Posted) (words : List ℕ) → AreWritten o posted words → length words ≡ words_of (size_of o) → Represents (size_of o) words (starting_board o posted)
-all_written o posted words written is = record { wide = is; each = λ p in_p. written p in_p (subst (λ (n : ℕ). address (size_of o) p < n) (sym is) (within (size_of o) p in_p)) }
+pub all_written : (o : Opening) (words : List ℕ) → AreWritten o words → length words ≡ words_of (size_of o) → Represents (size_of o) words (starting_board o)
+all_written o words written is = record { wide = is; each = λ p in_p. written p in_p (subst (λ (n : ℕ). address (size_of o) p < n) (sym is) (within (size_of o) p in_p)) }

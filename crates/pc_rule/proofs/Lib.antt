@@ -1,13 +1,13 @@
+pub mod Attempts
 pub mod BoardSizes
 pub mod Calls
 pub mod Ends
 pub mod Filling
-pub mod Giving
 pub mod Left
 pub mod Listing
+pub mod Noted
 pub mod Numbers
 pub mod Opened
-pub mod Posting
 pub mod Remaining
 pub mod Rooms
 pub mod Sharing

@@ -12,7 +12,14 @@ use Rattle.pc_rule.specs.declared.board.Pass.{Pass}
 use Rattle.pc_rule.specs.declared.share.Share.{Share}
 use Rattle.pc_rule.specs.Passes.{share_of, recorded}
 use Rattle.pc_rule.specs.Recorded.{calls_of, recorded_by}
-use Rattle.pc_rule.proofs.Giving.{in_parts, with_none}
+
+pub in_parts : {X : Type 0} (a b c : List X) → (a ++ b) ++ c ≡ a ++ (b ++ c)
+in_parts [] b c = refl
+in_parts {X} (x ∷ xs) b c = ap (λ (l : List X). x ∷ l) (in_parts xs b c)
+
+pub with_none : {X : Type 0} (a : List X) → a ++ [] ≡ a
+with_none [] = refl
+with_none {X} (x ∷ xs) = ap (λ (l : List X). x ∷ l) (with_none xs)
 
 -- the calls of one more share
 pub one_more : (shares : List Share) (i : ℕ) (x : Share) → get_elem? shares i ≡ some x → calls_of (drop i shares) ≡ x.calls + calls_of (drop (suc i) shares)

@@ -1,15 +1,22 @@
 -- What is asked of a step on a word of a node, with the raw words that it finds and puts.
-use Rattle.std.specs.Prelude.{◌≡◌, ℕ, ◌+◌}
+use Rattle.std.specs.Prelude.{◌≡◌, ℕ, ◌+◌, List}
 use Rattle.pc_model.specs.declared.cell.Field.{Field}
+use Rattle.pc_model.specs.Forms.{Form}
 use Rattle.pc_words.specs.declared.word.WordKind.{WordKind}
 use Rattle.pc_words.specs.declared.word.WordKind.TheVariants.{Plain, Install}
 use Rattle.pc_words.specs.declared.status.Stage.TheVariants.{Undecided}
 use Rattle.pc_words.specs.Statuses.{packed}
 use Rattle.pc_words.specs.Words.{raw}
 use Rattle.pc_rule_law.specs.Board.{Size}
-use Rattle.pc_rule_law.specs.Past.{Attempt}
-use Rattle.pc_rule_law.specs.Views.{View}
-use Rattle.pc_rule_law.specs.Conditions.{CanPlace, CanTake, CanPublish}
+use Rattle.pc_rule_law.specs.Past.{Attempt, Has, Describes}
+use Rattle.pc_rule_law.specs.Views.{View, word_in}
+use Rattle.pc_rule_law.specs.Conditions.{CanPlace, CanTake}
+use Rattle.pc_exchange_law.specs.ExchangeConditions.{MayPublish as CanPublish}
+use Rattle.pc_exchange_law.specs.Knowing.{after_publication}
+use Rattle.pc_exchange_law.specs.Passes.{PassKnows}
+use Rattle.pc_exchange_law.specs.Ties.{code, exchange_of}
+use Rattle.pc_exchange_law.specs.Wholes.{Whole}
+use Rattle.pc_protocol.specs.Notes.{clock_was}
 
 -- the new word is the own install, and the old one a plain value in whose place it may be put
 abbrev pub MayPlaceInstall : Size → View → ℕ → Field → ℕ → ℕ → Type 0
@@ -19,6 +26,14 @@ MayPlaceInstall z v n f old new = (x : ℕ) × (p : ℕ) × (a : ℕ) × (old �
 abbrev pub MayTakeInstall : Size → View → ℕ → Field → ℕ → ℕ → Type 0
 MayTakeInstall z v n f old new = (q : ℕ) × (k : ℕ) × (c : WordKind) × (old ≡ raw (Install q k)) × (new ≡ raw c) × CanTake z v q k n f c
 
--- the new status says that the own next attempt is undecided, and its words are stored
-abbrev pub MayPublish : View → ℕ → Type 0
-MayPublish v new = (e : Attempt) × (new ≡ packed (record { number = v.attempt.number + 1; stage = Undecided })) × CanPublish v e
+-- the new status says that the own next attempt is undecided, whose words are stored, and which raises its nodes and keeps
+-- cells sound; and the clock was loaded
+abbrev pub MayPublish : Form → Size → PassKnows → ℕ → Type 0
+MayPublish form z k new = (e : Attempt) × (c : ℕ) × (keys : List ℕ)
+    × (new ≡ packed (record { number = k.own.number + 1; stage = Undecided })) × CanPublish form z k e c keys
+
+-- what the pass knows beside its view after it published: that its next attempt is an exchange, which the stored words describe,
+-- and which was published with a clock that was loaded before
+abbrev pub KnowsPublished : Whole → PassKnows → Type 0
+KnowsPublished x k = (e : Attempt) × (c : ℕ) × Describes x.view.size.slots e (word_in x.knows.own.words) × Has x.knows.told (clock_was c)
+    × (k ≡ after_publication x.knows (code x.view.seat (x.knows.own.number + 1)) (exchange_of e) c)

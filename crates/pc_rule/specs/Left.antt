@@ -1,14 +1,23 @@
 -- What the words that a closed board leaves say by themselves.
-use Rattle.std.specs.Prelude.{◌≢◌, ℕ, List}
+use Rattle.std.specs.Prelude.{◌≡◌, ◌≢◌, ℕ, ◌<◌, List, [], ◌∷◌, ◌++◌}
 use Rattle.std.specs.Mem.Slots.{slots_items}
 use Rattle.pc_model.specs.declared.cell.Field.{Field}
 use Rattle.pc_model.specs.declared.shape.Shape.{Ghosts}
 use Rattle.pc_model.specs.Cells.{Cells, IsNode}
+use Rattle.pc_model.specs.Exchanges.{Exchange}
+use Rattle.pc_history.specs.Footprints.{IsAmong}
+use Rattle.pc_history.specs.WorldRuns.{Stamped, IsWorldRun, cells_after}
 use Rattle.pc_words.specs.declared.word.WordKind.TheVariants.{Install}
 use Rattle.pc_rule_law.specs.Board.{Board, board_in}
+use Rattle.pc_rule_law.specs.Past.{Has}
 use Rattle.pc_rule_law.specs.Values.{HasPlainValue}
+use Rattle.pc_protocol.specs.Histories.{committed}
+use Rattle.pc_protocol.specs.Notes.{Note, published, verdict}
+use Rattle.pc_exchange_law.specs.Ties.{code}
+use Rattle.pc_rule.specs.declared.board.Pass.{Pass}
 use Rattle.pc_rule.specs.declared.closed.Closed.{Closed}
 use Rattle.pc_rule.specs.Closed.{closed_size}
+use Rattle.pc_rule.specs.Passes.{knows}
 
 module _ {H : Type 0} {S : Ghosts H} where
   -- the words that are left
@@ -22,6 +31,23 @@ module _ {H : Type 0} {S : Ghosts H} where
   -- of each word of a node the words that are left say the value that these cells have there, and no other
   abbrev pub LeavesCells : Closed H S → Cells → Type 0
   LeavesCells c cells = (n : ℕ) (f : Field) → IsNode (closed_size c).slots n → HasPlainValue (board_left c) n f (cells n f)
+
+  -- what these passes have noted of the run, one after another
+  abbrev pub told_by : List (Pass H S) → List Note
+  told_by [] = []
+  told_by (p ∷ passes) = (knows p).told ++ told_by passes
+
+  -- The words that are left say the cells that a run leaves from these: exchanges by rising stamps, each of which stands in
+  -- the cells that the earlier ones leave. An attempt of which the passes have noted its exchange, and that it took effect,
+  -- stands in it at its stamp.
+  pub record IsLeftByRun (c : Closed H S) (opening : Cells) (passes : List (Pass H S)) : Type 0 where
+    pub begin : Cells
+    pub begins : (n : ℕ) (f : Field) → begin n f ≡ opening n f
+    pub run : List Stamped
+    pub stands : IsWorldRun begin 0 run
+    pub leaves : LeavesCells c (cells_after begin run)
+    pub won : (p a s b : ℕ) (e : Exchange) → p < 64 → Has (told_by passes) (published (code p a) e b)
+        → Has (told_by passes) (verdict (code p a) (committed s)) → IsAmong (record { stamp = s; what = e }) run
 
   -- an install stands in no word of a node
   abbrev pub HasNoInstall : Closed H S → Type 0

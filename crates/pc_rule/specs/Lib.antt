@@ -1,6 +1,8 @@
+pub mod Attempts
 pub mod Calls
 pub mod Closed
 pub mod Conditions
+pub mod Deciding
 pub mod Left
 pub mod Listed
 pub mod Opened

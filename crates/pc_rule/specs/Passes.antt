@@ -9,6 +9,8 @@ use Rattle.pc_rule_law.specs.Board.{Size}
 use Rattle.pc_rule_law.specs.Views.{View}
 use Rattle.pc_rule_law.specs.Plays.{IsWell}
 use Rattle.pc_rule_law.specs.Tables.{size_of}
+use Rattle.pc_exchange_law.specs.Passes.{PassKnows}
+use Rattle.pc_exchange_law.specs.Wholes.{Whole}
 use Rattle.pc_rule.specs.declared.board.Board.{Board}
 use Rattle.pc_rule.specs.declared.board.Pass.{Pass}
 use Rattle.pc_rule.specs.declared.opening.Place.{Place}
@@ -27,9 +29,18 @@ module _ {H : Type 0} where
   HasPass b p = (1 ≤ p) × (p ≤ (board_size b).seats)
 
 module _ {H : Type 0} {S : Ghosts H} where
-  -- what a pass knows
+  -- what a pass knows: its view, what it knows beside, and the attempt at which it aims
+  abbrev pub whole : Pass H S → Whole
+  whole p = p.seat.me.0
+
   abbrev pub view : Pass H S → View
-  view p = p.seat.me.0
+  view p = (whole p).view
+
+  abbrev pub knows : Pass H S → PassKnows
+  knows p = (whole p).knows
+
+  abbrev pub aim : Pass H S → ℕ × ℕ
+  aim p = (whole p).aim
 
   -- what a pass has of its board, and the calls that it recorded
   abbrev pub share_of : Pass H S → Share

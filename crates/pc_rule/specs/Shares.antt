@@ -10,10 +10,9 @@ use Rattle.pc_rule_law.specs.Rule.{opening_install, opening_own}
 use Rattle.pc_rule_law.specs.Views.{Note}
 use Rattle.pc_rule.specs.declared.board.Board.{Board}
 use Rattle.pc_rule.specs.declared.board.Pass.{Pass}
-use Rattle.pc_rule.specs.declared.opening.Place.{Place}
-use Rattle.pc_rule.specs.declared.opening.Posted.{Posted}
 use Rattle.pc_rule.specs.declared.share.Share.{Share}
-use Rattle.pc_rule.specs.Passes.{view, board_size, listed}
+use Rattle.pc_exchange_law.specs.Wholes.{knows_nothing}
+use Rattle.pc_rule.specs.Passes.{view, knows, board_size, listed}
 use Rattle.pc_rule.specs.Opened.{AreInOrder}
 use Rattle.pc_rule.specs.Recorded.{HasRoomFor}
 
@@ -34,15 +33,6 @@ pub record AreStarts (s : Starts) : Type 0 where
   pub epoch : (1 ≤ s.epoch) × (s.epoch ≤ 2 ^ 60)
   pub version : (s.version + 6 ≤ 2 ^ 60) × IsEven s.version
 
--- at most 24 changes of the sentinel, each of another field, with numbers that fit a word
-pub record IsForSentinel (places : List Place) : Type 0 where
-  pub few : length places ≤ 24
-  pub each : (i : ℕ) (p : Place) → get_elem? places i ≡ some p → (p.node ≡ 1) × (p.old < 2 ^ 62) × (p.new < 2 ^ 62)
-  pub apart : (i j : ℕ) (p q : Place) → get_elem? places i ≡ some p → get_elem? places j ≡ some q → p.field ≡ q.field → i ≡ j
-
-abbrev pub AreForSentinel : List Posted → Type 0
-AreForSentinel posted = (i : ℕ) (x : Posted) → get_elem? posted i ≡ some x → IsForSentinel x.places.items
-
 module _ {H : Type 0} {S : Ghosts H} where
   -- the pass with the highest seat takes in all others at the closing, and has room for the calls of all
   abbrev pub LastTakesAll : Board H → List (Pass H S) → Type 0
@@ -59,6 +49,10 @@ module _ {H : Type 0} {S : Ghosts H} where
   -- each pass has these notes and no others
   abbrev pub AllNoted : List (Pass H S) → List Note → Type 0
   AllNoted passes notes = (i : ℕ) (p : Pass H S) → get_elem? passes i ≡ some p → (view p).notes ≡ notes
+
+  -- each pass knows nothing beside its view
+  abbrev pub KnowNothing : List (Pass H S) → Type 0
+  KnowNothing passes = (i : ℕ) (p : Pass H S) → get_elem? passes i ≡ some p → knows p ≡ knows_nothing (view p).size.starts.attempt
 
   -- each pass may publish: no exchange was given at the opening, it has made no attempt, stored no word of its descriptor,
   -- and lists no word

@@ -2,20 +2,22 @@
 ghost use Rattle.std.specs.Prelude.{◌≡◌, ◌<◌, ◌≤◌, [], true, length, vec_capacity};
 ghost use Rattle.pc_rule_law.specs.Board.{words_of};
 ghost use Rattle.pc_rule_law.specs.Tables.{size_of};
+ghost use Rattle.pc_rule.specs.Attempts.{AgreeOnAttempt};
 ghost use Rattle.pc_rule.specs.Listed.{AreListed};
 
 use crate::opening::Place;
 use crate::share::Share;
 use atomic_table::{Seat, Table};
+use pc_exchange_law::{WholeLaw, WholeView};
 use pc_model::{Entry, Shape};
-use pc_rule_law::{Law, Opening, PassView, Starts};
+use pc_rule_law::{Opening, Starts};
 use std::alloc::Global;
 use std::marker::PhantomData;
 
 /// The words that passes share.
 #[derive(Drop)]
 pub struct Board<H: Shape> {
-    pub(crate) table: Table<bool, PassView, Opening, Law<H>, Global>,
+    pub(crate) table: Table<bool, WholeView, Opening, WholeLaw<H>, Global>,
     pub(crate) seats: usize,
     pub(crate) slots: usize,
     pub(crate) starts: Starts,
@@ -31,7 +33,7 @@ pub struct Board<H: Shape> {
 /// pass with the highest seat has room for the calls of all passes, which it takes in at the closing.
 #[derive(Drop)]
 pub struct Pass<H: Shape> {
-    pub(crate) seat: Seat<bool, PassView>,
+    pub(crate) seat: Seat<bool, WholeView>,
     pub(crate) index: usize,
     pub(crate) installs: u64,
     pub(crate) attempts: u64,
@@ -40,14 +42,15 @@ pub struct Pass<H: Shape> {
     pub(crate) entries: Vec<Entry>,
     pub(crate) listed: Vec<Place>,
     pub(crate) shape: PhantomData<H>,
-    ghost live: { seat.me.0.live ≡ true },
-    ghost numbered: { seat.me.0.seat ≡ index },
-    ghost counted: { seat.me.0.install.number ≡ installs },
-    ghost tried: { seat.me.0.attempt.number ≡ attempts },
-    ghost pending: { seat.me.0.attempt.published ≡ published },
+    ghost live: { seat.me.0.view.live ≡ true },
+    ghost numbered: { seat.me.0.view.seat ≡ index },
+    ghost counted: { seat.me.0.view.install.number ≡ installs },
+    ghost tried: { seat.me.0.view.attempt.number ≡ attempts },
+    ghost pending: { seat.me.0.view.attempt.published ≡ published },
     ghost holds_none: { seat.me.1 ≡ [] },
+    ghost one_attempt: { AgreeOnAttempt seat.me.0 },
     ghost few: { index < 32 },
     ghost roomy: { share.calls ≤ vec_capacity entries },
     ghost ample: { 24 ≤ vec_capacity listed },
-    ghost listing: { AreListed seat.me.0.size.slots listed.items },
+    ghost listing: { AreListed seat.me.0.view.size.slots listed.items },
 }

@@ -1,7 +1,6 @@
 //! The plain values of a closed board, looked up in its words.
 ghost use Rattle.std.specs.Prelude.{◌≡◌, ◌≢◌, ℕ, ◌+◌, ◌*◌, ◌<◌, ◌≤◌, slice_index};
 ghost use Rattle.pc_model.specs.Cells.{IsNode};
-ghost use Rattle.pc_model.specs.Linked.{opening_cells};
 ghost use Rattle.pc_words.specs.declared.word.WordKind.TheVariants.{Exchange};
 ghost use Rattle.pc_rule_law.specs.Board.{descriptor_words, stride, owns_begin, words_of};
 ghost use Rattle.pc_rule_law.specs.Stages.{value_by};
@@ -32,7 +31,6 @@ impl<H: Shape> Closed<H> {
     pub fn cell(&self, node: u32, field: Field) -> u64
         requires { IsNode (closed_size self.now).slots node }
         ensures plain { HasPlainValue (board_left self.now) node field result }
-        ensures opening { result ≡ opening_cells (closed_size self.now).starts.version node field }
     {
         let word = self.word(cell_place(node, field));
         match kind_of(word) {

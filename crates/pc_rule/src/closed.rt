@@ -2,8 +2,7 @@
 ghost use Rattle.std.specs.Prelude.{◌≡◌};
 ghost use Rattle.std.specs.Mem.Slots.{slots_items, slots_len, IsFull};
 ghost use Rattle.pc_rule_law.specs.Board.{words_of};
-ghost use Rattle.pc_rule_law.specs.Closings.{IsClosed};
-ghost use Rattle.pc_rule.specs.Sizes.{size_from, AreWithinLimits, AreOpeningCells};
+ghost use Rattle.pc_rule.specs.Sizes.{size_from, AreWithinLimits, IsOfClosed};
 
 use pc_model::{Entry, Shape};
 use pc_rule_law::Starts;
@@ -20,7 +19,7 @@ pub struct Closed<H: Shape> {
     pub(crate) shape: PhantomData<H>,
     ghost small: { AreWithinLimits seats slots },
     ghost laid: { IsFull table.words × (slots_len table.words ≡ words_of (size_from seats slots starts)) × (slots_len table.slots ≡ 0) },
-    ghost closed: { ∥ IsClosed (AreOpeningCells starts) (size_from seats slots starts) (slots_items table.words) ∥₁ },
+    ghost closed: { ∥ IsOfClosed H.form (size_from seats slots starts) (slots_items table.words) ∥₁ },
 }
 
 impl<H: Shape> Drop for Closed<H> {

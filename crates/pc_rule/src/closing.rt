@@ -4,7 +4,7 @@ ghost use Rattle.pc_rule.specs.Closed.{closed_size, history_of};
 ghost use Rattle.pc_rule.specs.Passes.{board_size};
 ghost use Rattle.pc_rule.specs.Recorded.{IsHistoryOf};
 ghost use Rattle.pc_rule.specs.Shares.{AreAll};
-ghost use Rattle.pc_rule.specs.Left.{LeavesCells, HasNoInstall};
+ghost use Rattle.pc_rule.specs.Left.{IsLeftByRun, HasNoInstall};
 ghost use Rattle.pc_model.specs.Linked.{opening_cells};
 
 use crate::board::{Board, Pass};
@@ -12,12 +12,14 @@ use crate::closed::Closed;
 use pc_model::{Entry, Shape};
 use std::marker::PhantomData;
 
-/// Closes a board with all its passes, in the order of their numbers, of which no install stands. What is left has the
-/// calls that they recorded, by rising stamps. It takes no memory and can't be refused.
+/// Closes a board with all its passes, in the order of their numbers, of which no install stands. Each word that is left has
+/// one plain value: that of the cells that the run of the passes' exchanges leaves, in which those stand that they know to have
+/// taken effect. What is left has also the calls that the
+/// passes recorded, by rising stamps. It takes no memory and can't be refused.
 pub fn close_board<H: Shape>(board: Board<H>, mut passes: Vec<Pass<H>>) -> Closed<H>
     requires passes { AreAll board passes.items }
     ensures installs { HasNoInstall result }
-    ensures cells { LeavesCells result (opening_cells (board_size board).starts.version) }
+    ensures cells { IsLeftByRun result (opening_cells (board_size board).starts.version) passes.items }
     ensures size { closed_size result ≡ board_size board }
     ensures history { IsHistoryOf passes.items (history_of result) }
 {

@@ -7,20 +7,24 @@ ghost use Rattle.std.specs.Prelude.{◌≡◌, ◌-◌, ◌<◌};
 ghost use Rattle.pc_rule_law.specs.Board.{descriptor_words};
 ghost use Rattle.pc_rule_law.specs.Conditions.{CanWrite};
 ghost use Rattle.pc_rule_law.specs.Plays.{ClockLoaded, after_write, after_publish, DescriptorLoaded};
-ghost use Rattle.pc_rule.specs.Conditions.{MayPublish};
-ghost use Rattle.pc_rule.specs.Passes.{view, board_size, IsPassOf, IsSamePass, HasPass};
+ghost use Rattle.pc_exchange_law.specs.Knowing.{DescriptorLoaded as WordLoaded, after_own_store};
+ghost use Rattle.pc_exchange_law.specs.WholePlays.{ClockSeen};
+ghost use Rattle.pc_rule.specs.Conditions.{MayPublish, KnowsPublished};
+ghost use Rattle.pc_rule.specs.Passes.{whole, view, knows, aim, board_size, IsPassOf, IsSamePass, HasPass};
 
 use crate::board::{Board, Pass};
+use pc_exchange_law::{WholeLoadClock, WholeLoadWord, WholePublish, WholeStoreWord};
 use pc_model::Shape;
-use pc_rule_law::{LoadClock, LoadWord, PublishAttempt, StoreWord};
 
 /// A load of the clock.
 pub fn step_9<H: Shape>(board: &Board<H>, pass: &mut Pass<H>) -> u64
     requires pass { IsPassOf board.now pass.old }
     ensures pass { IsSamePass pass.old pass.new }
     ensures told { ClockLoaded (view pass.old) result (view pass.new) }
+    ensures learnt { ClockSeen (knows pass.old) result (knows pass.new) }
+    ensures aim { aim pass.new ≡ aim pass.old }
 {
-    board.table.shared.load::<LoadClock>(&mut pass.seat, 0)
+    board.table.shared.load::<WholeLoadClock>(&mut pass.seat, 0)
 }
 
 /// A store to a word of the own descriptor, while nothing is published.
@@ -30,27 +34,31 @@ pub fn step_10<H: Shape>(board: &Board<H>, pass: &mut Pass<H>, place: u32, new: 
     requires may { CanWrite (view pass.old) }
     ensures pass { IsSamePass pass.old pass.new }
     ensures told { view pass.new ≡ after_write (view pass.old) place new }
+    ensures learnt { knows pass.new ≡ after_own_store (knows pass.old) place new }
+    ensures aim { aim pass.new ≡ aim pass.old }
 {
     let word = board.own_word(pass.index, 6 + place as usize);
     board
         .table
         .shared
-        .store::<StoreWord>(&mut pass.seat, word, new);
+        .store::<WholeStoreWord>(&mut pass.seat, word, new);
 }
 
 /// Publishes the own next attempt: a store of the status that says that it is undecided. Its words are those that stand in
 /// the descriptor.
 pub fn step_11<H: Shape>(board: &Board<H>, pass: &mut Pass<H>, new: u64)
     requires pass { IsPassOf board.now pass.old }
-    requires may { MayPublish (view pass.old) new }
+    requires may { MayPublish H.form (board_size board.now) (knows pass.old) new }
     ensures pass { IsSamePass pass.old pass.new }
     ensures told { view pass.new ≡ after_publish (view pass.old) }
+    ensures learnt { KnowsPublished (whole pass.old) (knows pass.new) }
+    ensures aim { aim pass.new ≡ aim pass.old }
 {
     let word = board.own_word(pass.index, 0);
     board
         .table
         .shared
-        .store::<PublishAttempt>(&mut pass.seat, word, new);
+        .store::<WholePublish>(&mut pass.seat, word, new);
     pass.attempts += 1;
     pass.published = true;
 }
@@ -62,7 +70,12 @@ pub fn step_12<H: Shape>(board: &Board<H>, pass: &mut Pass<H>, of: u32, place: u
     requires place { place < descriptor_words (board_size board.now).slots }
     ensures pass { IsSamePass pass.old pass.new }
     ensures told { DescriptorLoaded (view pass.old) (of - 1) place result (view pass.new) }
+    ensures learnt { WordLoaded (knows pass.old) (of - 1) place result (knows pass.new) }
+    ensures aim { aim pass.new ≡ aim pass.old }
 {
     let word = board.own_word(of as usize - 1, 6 + place as usize);
-    board.table.shared.load::<LoadWord>(&mut pass.seat, word)
+    board
+        .table
+        .shared
+        .load::<WholeLoadWord>(&mut pass.seat, word)
 }

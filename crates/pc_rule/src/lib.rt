@@ -1,6 +1,6 @@
 //! The board that passes share, and their steps on it. A board owns the words; a pass owns a seat at them, which no two
-//! threads have. Each call `step_n` makes one atomic step on one word and nothing else; its condition is what the rule of
-//! `pc_rule_law` asks of that step, and it tells what the rule says that the pass knows then.
+//! threads have. Each call `step_n` makes one atomic step on one word and nothing else; its condition is what the rule
+//! of `pc_exchange_law` asks of that step, and it tells what the rule says that the pass knows then.
 #![tactic(auto)]
 
 mod board;
@@ -8,6 +8,7 @@ mod boards;
 mod cells;
 mod closed;
 mod closing;
+mod decisions;
 mod exchanges;
 mod life;
 mod listed;
@@ -21,11 +22,12 @@ mod share;
 mod steps;
 
 pub use board::{Board, Pass};
-pub use boards::{open_board, open_posted, usual_starts};
+pub use boards::{open_board, usual_starts};
 pub use closed::Closed;
 pub use closing::close_board;
+pub use decisions::{step_13, step_14, step_14_own, step_15, step_16};
 pub use exchanges::{step_9, step_10, step_11, step_12};
-pub use opening::{Place, Posted};
+pub use opening::Place;
 pub use pc_rule_law::Starts;
 pub use refs::{Ref, RefKind};
 pub use share::Share;

@@ -1,29 +1,32 @@
 //! How a board is opened with its passes.
-ghost use Rattle.std.specs.Prelude.{IfOk, true, [], ◌≡◌, ◌++◌, ◌+◌, ◌<◌, ◌≤◌, ◌^◌, length, map, vec_capacity};
+ghost use Rattle.std.specs.Prelude.{IfOk, true, false, [], ◌≡◌, ◌++◌, ◌+◌, ◌<◌, ◌≤◌, ◌^◌, length, vec_capacity};
 ghost use Rattle.std.specs.List.Sorted.{IsPermutation};
 ghost use mathlib.Core.Option.{some};
 ghost use lib.ListN.{get_elem?};
+ghost use Rattle.pc_model.specs.Forms.{IsSound};
 ghost use Rattle.pc_model.specs.Linked.{opening_cells};
 ghost use Rattle.std.specs.Mem.Slots.{slots_items, slots_len, IsFull};
 ghost use Rattle.pc_rule_law.specs.Board.{words_of};
-ghost use Rattle.pc_rule_law.specs.Closings.{IsClosed};
 ghost use Rattle.pc_rule_law.specs.Conditions.{IsFree};
-ghost use Rattle.pc_rule_law.specs.Openings.{MayOpen, opening_notes};
-ghost use Rattle.pc_rule_law.specs.Seats.{maker, made_by, joined_by};
-ghost use Rattle.pc_rule_law.specs.Tables.{size_of, note_of, first_view, sound_cells};
-ghost use Rattle.pc_rule.specs.Passes.{view, board_size, share_of, recorded, listed, SitsAt, IsPassOf};
+ghost use Rattle.pc_rule_law.specs.Openings.{MayOpen};
+ghost use Rattle.pc_rule_law.specs.Seats.{joined_by};
+ghost use Rattle.pc_rule_law.specs.Tables.{size_of};
+ghost use Rattle.pc_exchange_law.specs.Ties.{last_stamp};
+ghost use Rattle.pc_exchange_law.specs.WholeSeats.{first_whole, whole_maker, whole_made, IsWholeClosed};
+ghost use Rattle.pc_rule.specs.Passes.{whole, view, knows, board_size, share_of, recorded, listed, SitsAt, IsPassOf};
 ghost use Rattle.pc_rule.specs.Recorded.{calls_of, recorded_by, HasRoomFor};
+ghost use Rattle.pc_rule.specs.Left.{told_by};
 ghost use Rattle.pc_rule.specs.Opened.{AreOpened, AreInOrder};
-ghost use Rattle.pc_rule.specs.Starting.{all_posted};
 
 use crate::board::{Board, Pass};
 use crate::listed::list_room;
-use crate::opening::{Place, Posted, words_start};
+use crate::opening::{Place, words_start};
 use crate::recorded::room_for;
 use crate::share::Share;
 use atomic_table::{Closed, Table};
+use pc_exchange_law::{WholeJoinPass, WholeLaw, WholeMakePass, WholeView};
 use pc_model::{Entry, Shape};
-use pc_rule_law::{JoinPass, Law, MakePass, Opening, PassView};
+use pc_rule_law::Opening;
 use std::alloc::{AllocError, Global};
 use std::marker::PhantomData;
 
@@ -32,14 +35,13 @@ impl<H: Shape> Board<H> {
     fn first(
         alloc: Global,
         opening: &Opening,
-        posted: &[Posted],
         shares: &[Share],
     ) -> Result<(Board<H>, Pass<H>), AllocError>
         requires small { (opening.now.slots ≤ 61000) × (opening.now.seats ≤ 32) × (opening.now.starts.attempt < 2 ^ 28) × (opening.now.starts.version < 2 ^ 60) }
-        requires may { MayOpen (sound_cells H.form opening.now) (size_of opening.now) (opening_cells opening.now.starts.version) opening.now.posted (all_posted posted.now) }
-        requires given { map note_of opening.now.given.items ≡ opening_notes 0 (all_posted posted.now) }
+        requires may { MayOpen (IsSound H.form) (size_of opening.now) (opening_cells opening.now.starts.version) false [] }
+        requires early { opening.now.starts.stamp ≤ last_stamp }
         requires shares { (length shares.now ≡ opening.now.seats) × (1 ≤ length shares.now) }
-        ensures opened { IfOk result (λ r. (board_size r.0 ≡ size_of opening.now) × (r.0.shares.items ≡ shares.now) × IsPassOf r.0 r.1 × (view r.1 ≡ first_view opening.now)) }
+        ensures opened { IfOk result (λ r. (board_size r.0 ≡ size_of opening.now) × (r.0.shares.items ≡ shares.now) × IsPassOf r.0 r.1 × (whole r.1 ≡ first_whole (size_of opening.now))) }
         ensures room { IfOk result (λ r. (recorded r.1 ≡ []) × (1 ≡ length shares.now → HasRoomFor shares.now r.1)) }
         ensures list { IfOk result (λ r. listed r.1 ≡ []) }
     {
@@ -47,8 +49,8 @@ impl<H: Shape> Board<H> {
         let listed = list_room(alloc)?;
         let mut kept = Vec::new(alloc);
         kept.extend_from_slice(shares)?;
-        let words = words_start(alloc, opening, posted)?;
-        let (table, seat) = Table::<bool, PassView, Opening, Law<H>, Global>::of_words(
+        let words = words_start(alloc, opening)?;
+        let (table, seat) = Table::<bool, WholeView, Opening, WholeLaw<H>, Global>::of_words(
             alloc,
             words.as_slice(),
             opening,
@@ -88,13 +90,16 @@ impl<H: Shape> Board<H> {
         requires share { get_elem? self.now.shares.items index ≡ some share }
         requires room { (entries.items ≡ []) × (share.calls ≤ vec_capacity entries) }
         requires list { (places.items ≡ []) × (24 ≤ vec_capacity places) }
-        ensures pass { IsPassOf self.now last.new × (view last.new ≡ maker (view last.old)) }
+        ensures pass { IsPassOf self.now last.new × (whole last.new ≡ whole_maker (whole last.old)) }
         ensures kept { (recorded last.new ≡ recorded last.old) × (listed last.new ≡ listed last.old) }
-        ensures made { IsPassOf self.now result × (view result ≡ made_by (view last.old)) }
+        ensures made { IsPassOf self.now result × (whole result ≡ whole_made (whole last.old)) }
         ensures room { (recorded result ≡ []) × (vec_capacity result.entries ≡ vec_capacity entries) }
         ensures list { listed result ≡ [] }
     {
-        let seat = self.table.shared.split_seat::<MakePass>(&mut last.seat);
+        let seat = self
+            .table
+            .shared
+            .split_seat::<WholeMakePass>(&mut last.seat);
         Pass {
             seat,
             index,
@@ -112,17 +117,16 @@ impl<H: Shape> Board<H> {
     pub(crate) fn open(
         alloc: Global,
         opening: &Opening,
-        posted: &[Posted],
         shares: &[Share],
     ) -> Result<(Board<H>, Vec<Pass<H>>), AllocError>
         requires small { (opening.now.slots ≤ 61000) × (opening.now.seats ≤ 32) × (opening.now.starts.attempt < 2 ^ 28) × (opening.now.starts.version < 2 ^ 60) }
-        requires may { MayOpen (sound_cells H.form opening.now) (size_of opening.now) (opening_cells opening.now.starts.version) opening.now.posted (all_posted posted.now) }
-        requires given { map note_of opening.now.given.items ≡ opening_notes 0 (all_posted posted.now) }
+        requires may { MayOpen (IsSound H.form) (size_of opening.now) (opening_cells opening.now.starts.version) false [] }
+        requires early { opening.now.starts.stamp ≤ last_stamp }
         requires shares { (length shares.now ≡ opening.now.seats) × (1 ≤ length shares.now) }
         ensures { IfOk result (λ r. (board_size r.0 ≡ size_of opening.now) × (r.0.shares.items ≡ shares.now) × AreOpened r.0 opening.now r.1.items) }
     {
         let mut passes = Vec::with_capacity(alloc, opening.seats)?;
-        let (board, mut last) = Board::first(alloc, opening, posted, shares)?;
+        let (board, mut last) = Board::first(alloc, opening, shares)?;
         let mut made = 0;
         while made + 1 < opening.seats {
             let entries = room_for(alloc, shares, made + 1)?;
@@ -143,6 +147,7 @@ impl<H: Shape> Board<H> {
         requires free { IsFree (view other) }
         requires room { length (recorded last.old) + length (recorded other) ≤ vec_capacity last.old.entries }
         ensures pass { SitsAt self.now last.new × (view last.new ≡ joined_by (view last.old) (view other)) }
+        ensures told { (knows last.new).told ≡ (knows other).told ++ (knows last.old).told }
         ensures entries { recorded last.new ≡ recorded last.old ++ recorded other }
         ensures capacity { vec_capacity last.old.entries ≤ vec_capacity last.new.entries }
     {
@@ -153,7 +158,7 @@ impl<H: Shape> Board<H> {
         } = other;
         self.table
             .shared
-            .join_seat::<JoinPass>(&mut last.seat, seat);
+            .join_seat::<WholeJoinPass>(&mut last.seat, seat);
         let Ok(()) = last.entries.append(&mut entries) else {
             unreachable!()
         };
@@ -166,6 +171,7 @@ impl<H: Shape> Board<H> {
         requires room { HasRoomFor self.now.shares.items last.old }
         ensures pass { SitsAt self.now last.new × (view last.new ≡ record (view last.old) { rest = 0 }) }
         ensures entries { IsPermutation (recorded_by others.items ++ recorded last.old) (recorded last.new) }
+        ensures told { (knows last.new).told ≡ told_by others.items ++ (knows last.old).told }
     {
         while let Some(other) = others.pop() {
             self.take_in(last, other);
@@ -177,7 +183,7 @@ impl<H: Shape> Board<H> {
     pub(crate) fn end(self, last: Pass<H>) -> (Closed<bool, Global>, Vec<Entry>)
         requires pass { SitsAt self last × ((view last).last ≡ true) × ((view last).rest ≡ 0) }
         requires free { IsFree (view last) }
-        ensures closed { IsClosed (sound_cells H.form self.table.shared.key) (board_size self) (slots_items result.0.words) }
+        ensures closed { IsWholeClosed H.form (board_size self) (knows last) (slots_items result.0.words) }
         ensures laid { IsFull result.0.words × (slots_len result.0.words ≡ words_of (board_size self)) × (slots_len result.0.slots ≡ 0) }
         ensures entries { result.1.items ≡ recorded last }
     {

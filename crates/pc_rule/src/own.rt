@@ -13,7 +13,7 @@ impl<H: Shape> Pass<H> {
         self.installs
     }
 
-    /// The number of its last attempt, or what the board starts at. An exchange that it was given at the opening isn't counted.
+    /// The number of its last attempt, or what the board starts at.
     pub fn attempts(&self) -> u64
         ensures { result ≡ (view self.now).attempt.number }
     {

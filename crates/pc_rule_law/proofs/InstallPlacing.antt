@@ -14,7 +14,7 @@ use Rattle.pc_words.proofs.Words.{kind_raw, raw_is_word, raw_injective}
 use Rattle.pc_rule_law.specs.Board.{Size, at_cell, address, Inside, Board, put2, put_cell}
 use Rattle.pc_rule_law.specs.Past.{Has, Placing, Past, change, placing_word}
 use Rattle.pc_rule_law.specs.Stages.{IsUndecided, DecidedBelow}
-use Rattle.pc_rule_law.specs.Views.{Note, placed, install_word, View, NoteHolds, IsInstall, AllNotes, with_notes}
+use Rattle.pc_rule_law.specs.Views.{Note, placed, install_word, removed, clean, IsClean, View, NoteHolds, IsInstall, AllNotes, with_notes}
 use Rattle.pc_rule_law.specs.Rule.{Standing, CellOk, Placed, Own, Shared, Holds}
 use Rattle.pc_rule_law.specs.Conditions.{CanPlace}
 use Rattle.pc_rule_law.specs.Plays.{Mine, SameSeat, InstallTried, InstallPlaced, found, own_notes, after_place, PlacedInstall, places_install}
@@ -206,6 +206,18 @@ module _ (sound : ℕ → Cells → Type 0) (z : Size) where
       ∙ (ap (λ (i : ℕ). b.install i 0) (sym e) ∙ y.present st.stands) in
       let zero_course : h.course q j ≡ 0 = ap₂ h.course e (sym number) ∙ own.unplaced fresh in omega arith
 
+  -- an install that is gone stands nowhere
+  pub not_removed : (b : Board) (h : Past) (v : View) (n : ℕ) (f : Field) → Shared sound z b h → AllNotes (NoteHolds z b h) v.notes
+      → (q j : ℕ) → b.cell n f ≡ Install q j → Has v.notes (removed q j) → ⊥
+  not_removed b h v n f s good q j is has = let st : Standing h.placing h.course (h.plain n f) n f q j =
+      subst (CellOk z.seats b.status h.attempt h.placing h.course (h.plain n f) n f) is (s.each_cell n f) in
+      let one : h.course q j ≡ 1 = st.stands in let two : 2 ≤ h.course q j = (good (removed q j) has).0 in omega arith
+
+  -- a word that is clean of an attempt doesn't hold its reference
+  not_clean : (b : Board) (h : Past) (v : View) (n : ℕ) (f : Field) → AllNotes (NoteHolds z b h) v.notes
+      → (p a : ℕ) → b.cell n f ≡ Exchange p a → Has v.notes (clean p a n f) → ⊥
+  not_clean b h v n f good p a is has = let no : p ≡ p → a ≢ a = subst (IsClean h.placing p a) is (good (clean p a n f) has).0.1 in no refl refl
+
   -- where the plain value is found, the own install is placed
   pub place_hits : (id : ℕ) (v : View) (n : ℕ) (f : Field) (x p a : ℕ) → CanPlace z v n f x p a → Inside z (at_cell n f)
       → Hits sound z (MovesWord z id n f (Install id v.install.number)) id v (at_cell n f) (raw (Plain x))
@@ -245,6 +257,12 @@ module _ (sound : ℕ → Cells → Type 0) (z : Size) where
             other = λ q j found_it. absurd
                 (plain_not_install x q j (sym is
                 ∙ (sym (told_kind (b.cell n f) (s.ranges n f) (raw (b.cell n f)) refl) ∙ found_it)));
+            present = λ q j found_it has. absurd
+                (plain_not_install x q j (sym is
+                ∙ (sym (told_kind (b.cell n f) (s.ranges n f) (raw (b.cell n f)) refl) ∙ found_it)));
+            unclean = λ q j found_it has. absurd
+                (plain_not_exchange x q j (sym is
+                ∙ (sym (told_kind (b.cell n f) (s.ranges n f) (raw (b.cell n f)) refl) ∙ found_it)));
           },
         );
       }
@@ -266,6 +284,8 @@ module _ (sound : ℕ → Cells → Type 0) (z : Size) where
             miss = λ _. ap (λ (u : WordKind). with_notes v (found n f u)) (sym same);
             other = λ q j found_it own_seat. not_own sound z b h id v n f s own can.fresh q j (sym same ∙ found_it)
                 (own_seat ∙ own.seated.0);
+            present = λ q j found_it has. not_removed b h v n f s mine.noted q j (sym same ∙ found_it) has;
+            unclean = λ q j found_it has. not_clean b h v n f mine.noted q j (sym same ∙ found_it) has;
           },
         ),
       )

@@ -1,9 +1,10 @@
 -- The load of a status: which attempts of the pass are decided. Where the present one isn't, each install that is
 -- known to be for it was placed while it was undecided, since a number is undecided only once.
-use Rattle.std.proofs.Common.{◌≡◌, ℕ, zero, suc, ◌+◌, ◌*◌, ◌^◌, ◌<◌, ◌≤◌, Bool, true, false, ◌==◌, List, [], ◌∷◌, ◌++◌, refl, sym, ap, ◌∙◌, subst, eqb-true, eq-eqb, arith}
+use Rattle.std.proofs.Common.{◌≡◌, ℕ, zero, suc, ◌+◌, ◌*◌, ◌^◌, ◌<◌, ◌≤◌, Bool, true, false, ◌==◌, List, [], ◌∷◌, ◌++◌, length, refl, sym, ap, ◌∙◌, subst, eqb-true, eq-eqb, arith}
 use mathlib.Core.Option.{none}
 use Rattle.atomic_table.specs.Table.{step, Allows}
 use Rattle.pc_model.specs.Cells.{Cells}
+use Rattle.pc_model.specs.Exchanges.{Visited}
 use Rattle.pc_words.specs.declared.word.WordKind.TheVariants.{Exchange}
 use Rattle.pc_words.specs.declared.status.Stage.{Stage}
 use Rattle.pc_words.specs.declared.status.Stage.TheVariants.{Idle, Undecided, Succeeded, Withdrawn, Changed, Locked}
@@ -16,8 +17,8 @@ use Rattle.pc_rule_law.specs.Past.{Has, Past, placing_word}
 use Rattle.pc_rule_law.specs.Stages.{IsIdle, IsOpen, IsUndecided, decided_from, decided_by}
 use Rattle.pc_rule_law.specs.Views.{Note, entry, install_word, early, decided_below, held, word_loaded, attempt_word, View, NoteHolds, AllNotes, with_notes}
 use Rattle.pc_rule_law.specs.Rule.{Known, Shared, Holds}
-use Rattle.pc_rule_law.specs.Plays.{Mine, SameSeat, StatusLoaded, LoadedStatus, loads_status}
-use Rattle.pc_rule_law.proofs.Lists.{all_none, all_more, all_both, has_left, has_right, has_first, has_later}
+use Rattle.pc_rule_law.specs.Plays.{Mine, SameSeat, StatusLoaded, IsPlaceIn, LoadedStatus, loads_status}
+use Rattle.pc_rule_law.proofs.Lists.{element_at, all_none, all_more, all_both, has_left, has_right, has_first, has_later}
 use Rattle.pc_rule_law.proofs.Keeping.{noted_more}
 use Rattle.pc_rule_law.proofs.Learning.{learnt, has_learnt, all_learnt, only_if, has_only_if, all_only_if, when, has_if_same, all_if_same, has_when, all_when, later_more}
 use Rattle.pc_rule_law.proofs.Stages.{decided_not_undecided}
@@ -136,6 +137,37 @@ module _ (sound : ℕ → Cells → Type 0) (z : Size) (b : Board) (h : Past) (f
       )))
   words_learnt p busy _ g = all_none (NoteHolds z b h)
 
+  -- what was loaded of the present attempt, which isn't cleared, is what that has
+  word_stands : (p place x : ℕ) → (IsIdle (b.status p).stage → ⊥) → NoteHolds z b h (word_loaded p (b.status p).number place x)
+      → h.words p (b.status p).number place ≡ x
+  word_stands p place x busy g = sym (s.written p busy place g.1.1) ∙ g.0.1 refl busy
+
+  count_ranged : (p count : ℕ) → (IsIdle (b.status p).stage → ⊥) → NoteHolds z b h (word_loaded p (b.status p).number 1 count)
+      → count ≤ 25 + z.slots
+  unfolding word_stands
+  count_ranged p count busy g = let e = sym (word_stands p 1 count busy g) ∙ (s.described p (b.status p).number).changes in
+      let few = (s.formed p (b.status p).number).few in omega arith
+
+  visits_none : (p count : ℕ) → (IsIdle (b.status p).stage → ⊥) → NoteHolds z b h (word_loaded p (b.status p).number 2 count) → count ≡ 0
+  unfolding word_stands
+  visits_none p count busy g = sym (word_stands p 2 count busy g) ∙ ((s.described p (b.status p).number).visits
+      ∙ ap (λ (l : List Visited). length l) (s.formed p (b.status p).number).no_visits)
+
+  change_ranged : (p count i place old new : ℕ) → (IsIdle (b.status p).stage → ⊥) → NoteHolds z b h (word_loaded p (b.status p).number 1 count)
+      → i < count → NoteHolds z b h (word_loaded p (b.status p).number (3 + 3 * i) place)
+      → NoteHolds z b h (word_loaded p (b.status p).number (4 + 3 * i) old) → NoteHolds z b h (word_loaded p (b.status p).number (5 + 3 * i) new)
+      → IsPlaceIn z.slots place × (old < 2 ^ 62) × (new < 2 ^ 62)
+  unfolding word_stands
+  change_ranged p count i place old new busy counted lt at_place at_old at_new = let d = s.described p (b.status p).number in
+      let e = sym (word_stands p 1 count busy counted) ∙ d.changes in
+      let x = element_at (h.attempt p (b.status p).number).changes i (subst (λ (m : ℕ). i < m) e lt) in
+      let words = d.each_change i x.0 x.1 in
+      let inside = (s.formed p (b.status p).number).inside x.0 (i, x.1) in (
+        (x.0.node, x.0.field, sym (word_stands p (3 + 3 * i) place busy at_place) ∙ words.0, inside.0),
+        subst (λ (y : ℕ). y < 2 ^ 62) (sym words.1 ∙ word_stands p (4 + 3 * i) old busy at_old) inside.1,
+        subst (λ (y : ℕ). y < 2 ^ 62) (sym words.2 ∙ word_stands p (5 + 3 * i) new busy at_new) inside.2,
+      )
+
   -- what a load of a status adds to what the pass knows
   abbrev pub learnt_of_status : View → ℕ → List Note
   learnt_of_status v p = when (is_open (b.status p).stage) (learnt (learn_status p (b.status p).number) v.notes)
@@ -173,6 +205,14 @@ module _ (sound : ℕ → Cells → Type 0) (z : Size) (b : Board) (h : Past) (f
             (has_when (p == p) (only_if (m == m) (attempt_word p m place x)) (attempt_word p m place x) (eq-eqb p p refl)
             (has_only_if (m == m) (attempt_word p m place x) (eq-eqb m m refl))))))));
         words_below = λ a place x has. (good (attempt_word p a place x) has).0.0;
+        counts = λ busy count has. subst (λ (y : Size). count ≤ 25 + y.slots) (sym (mine.own live).sized)
+            (count_ranged p count busy (good (word_loaded p m 1 count) has));
+        visits = λ busy count has. visits_none p count busy (good (word_loaded p m 2 count) has);
+        changes = λ busy count i place old new counted below has_place has_old has_new.
+            subst (λ (y : Size). IsPlaceIn y.slots place × (old < 2 ^ 62) × (new < 2 ^ 62)) (sym (mine.own live).sized)
+            (change_ranged p count i place old new busy (good (word_loaded p m 1 count) counted) below
+            (good (word_loaded p m (3 + 3 * i) place) has_place) (good (word_loaded p m (4 + 3 * i) old) has_old)
+            (good (word_loaded p m (5 + 3 * i) new) has_new));
         own = λ seat none'. let own = mine.own live in let t = (mine.tries live none').1 in let self : p ≡ id = seat ∙ own.seated.0 in
             subst (λ (q : ℕ). ((b.status q).number ≡ v.attempt.number) × (v.attempt.published ≡ false → IsIdle (b.status q).stage)
             × (v.attempt.published ≡ true → IsIdle (b.status q).stage → ⊥)) (sym self) (t.number, t.resting, t.running);

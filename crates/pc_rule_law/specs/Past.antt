@@ -1,7 +1,7 @@
 -- What the rule remembers besides the words: what no word shows, and what words showed before. The rule says that
 -- such a past exists; the proof of a step chooses the next one, so anything may be remembered, whoever makes the
 -- step.
-use Rattle.std.specs.Prelude.{◌≡◌, ℕ, zero, suc, ◌+◌, ◌*◌, ◌^◌, ◌<◌, ◌≤◌, Bool, List, length}
+use Rattle.std.specs.Prelude.{◌≡◌, ℕ, zero, suc, ◌+◌, ◌*◌, ◌^◌, ◌<◌, ◌≤◌, Bool, List, [], length}
 use mathlib.Core.Option.{some}
 use lib.ListN.{get_elem?}
 use Rattle.pc_model.specs.declared.cell.Field.{Field}
@@ -79,6 +79,8 @@ pub record Describes (slots : ℕ) (a : Attempt) (word : ℕ → ℕ) : Type 0 w
 pub record IsFormed (slots : ℕ) (a : Attempt) : Type 0 where
   pub few : length a.changes ≤ 25 + slots
   pub few_visits : length a.visits ≤ slots + 1
+  -- until paths come none is checked
+  pub no_visits : a.visits ≡ []
   pub inside : (x : Changed) → Has a.changes x → IsNode slots x.node × (x.old < 2 ^ 62) × (x.new < 2 ^ 62)
   pub apart : (i j : ℕ) (x y : Changed) → get_elem? a.changes i ≡ some x → get_elem? a.changes j ≡ some y
       → x.node ≡ y.node → x.field ≡ y.field → i ≡ j

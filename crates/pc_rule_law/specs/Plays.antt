@@ -1,8 +1,9 @@
 -- What each kind of step tells the pass that makes it.
-use Rattle.std.specs.Prelude.{◌≡◌, ◌≢◌, ℕ, zero, suc, ◌+◌, ◌<◌, ◌≤◌, Bool, true, false, List, [], ◌∷◌, ◌++◌}
+use Rattle.std.specs.Prelude.{◌≡◌, ◌≢◌, ℕ, zero, suc, ◌+◌, ◌*◌, ◌^◌, ◌<◌, ◌≤◌, Bool, true, false, List, [], ◌∷◌, ◌++◌}
 use Rattle.atomic_table.specs.Table.{Me, Step}
 use Rattle.pc_model.specs.declared.cell.Field.{Field}
 use Rattle.pc_model.specs.declared.cell.Field.TheVariants.{Version, Key, Value, Left, Right, Parent, Height, Spare}
+use Rattle.pc_model.specs.Cells.{IsNode}
 use Rattle.pc_model.specs.Exchanges.{Changed as Change}
 use Rattle.pc_model.specs.Linked.{opening_cells}
 use Rattle.pc_words.specs.declared.word.WordKind.{WordKind}
@@ -10,10 +11,10 @@ use Rattle.pc_words.specs.declared.word.WordKind.TheVariants.{Plain, Install, Ex
 use Rattle.pc_words.specs.declared.status.Status.{Status}
 use Rattle.pc_words.specs.Words.{raw, kind, IsWord}
 use Rattle.pc_words.specs.Statuses.{unpacked, IsStatus}
-use Rattle.pc_rule_law.specs.Board.{own_status, own_install, own_word, Place, at_clock, at_own, at_cell, address, Inside}
+use Rattle.pc_rule_law.specs.Board.{own_status, own_install, own_word, Place, at_clock, at_own, at_cell, address, Inside, place_number}
 use Rattle.pc_rule_law.specs.Past.{Has}
 use Rattle.pc_rule_law.specs.Stages.{IsIdle, IsOpen, decided_by}
-use Rattle.pc_rule_law.specs.Views.{Note, version, entry, placed, loaded, install_word, early, removed, decided_below, held, clock_at, word_loaded, attempt_word, OwnInstall, View, NoteInRange, AllNotes, with_notes}
+use Rattle.pc_rule_law.specs.Views.{Note, version, entry, placed, loaded, install_word, early, removed, decided_below, held, clean, clock_at, word_loaded, attempt_word, OwnInstall, View, NoteInRange, AllNotes, with_notes}
 
 abbrev pub Mine : Type 0
 Mine = Me Bool View
@@ -136,6 +137,9 @@ pub record InstallTried (v : View) (n : ℕ) (f : Field) (old r : ℕ) (w : View
   pub miss : r ≢ old → w ≡ with_notes v (found n f (kind r))
   -- an install that stands there isn't the pass's own
   pub other : (q k : ℕ) → kind r ≡ Install q k → q ≢ v.seat
+  -- nor one that is known to be gone; and the word isn't known to be clean of an attempt whose reference stands there
+  pub present : (q k : ℕ) → kind r ≡ Install q k → Has v.notes (removed q k) → ⊥
+  pub unclean : (p a : ℕ) → kind r ≡ Exchange p a → Has v.notes (clean p a n f) → ⊥
 
 pub record InstallPlaced (v : View) (n : ℕ) (f : Field) (old r : ℕ) (w : View) : Type 0 where
   pub word : IsWord r
@@ -152,6 +156,10 @@ PlacedInstall v old r w _ = Unit {0}
 abbrev pub places_install : Step Bool → Mine → ℕ → Mine → Type 0
 places_install st m r m' = Tells m st.word (PlacedInstall m.0 st.first r) m'
 
+-- the number of a word of a board with so many slots
+abbrev pub IsPlaceIn : ℕ → ℕ → Type 0
+IsPlaceIn slots place = (n : ℕ) × (f : Field) × (place ≡ place_number n f) × IsNode slots n
+
 -- ---- a load of a status: which attempts are decided; and where this one is undecided, the installs that are known to be for
 -- it were placed while it was. Where it isn't cleared, what was loaded of its descriptor stands for good. Its number is at
 -- least each that the pass knows of, and of the own status it is the own one
@@ -167,6 +175,12 @@ pub record StatusLoaded (v : View) (p : ℕ) (s : Status) (w : View) : Type 0 wh
   pub settles : (IsIdle s.stage → ⊥) → (place x : ℕ) → Has v.notes (word_loaded p s.number place x)
       → Has w.notes (attempt_word p s.number place x)
   pub words_below : (a place x : ℕ) → Has v.notes (attempt_word p a place x) → a ≤ s.number
+  -- and it is in range: the number of changes and of visits, and the words of each change
+  pub counts : (IsIdle s.stage → ⊥) → (count : ℕ) → Has v.notes (word_loaded p s.number 1 count) → count ≤ 25 + v.size.slots
+  pub visits : (IsIdle s.stage → ⊥) → (count : ℕ) → Has v.notes (word_loaded p s.number 2 count) → count ≡ 0
+  pub changes : (IsIdle s.stage → ⊥) → (count i place old new : ℕ) → Has v.notes (word_loaded p s.number 1 count) → i < count
+      → Has v.notes (word_loaded p s.number (3 + 3 * i) place) → Has v.notes (word_loaded p s.number (4 + 3 * i) old)
+      → Has v.notes (word_loaded p s.number (5 + 3 * i) new) → IsPlaceIn v.size.slots place × (old < 2 ^ 62) × (new < 2 ^ 62)
   pub own : p ≡ v.seat → v.posted ≡ false → (s.number ≡ v.attempt.number)
       × (v.attempt.published ≡ false → IsIdle s.stage) × (v.attempt.published ≡ true → IsIdle s.stage → ⊥)
 

@@ -10,3 +10,7 @@ complete_met-requires-clause-met c = met_known (view c.args.pass.now) (view c.in
 pub returns-clause-known : goal.returns-clause-known
 returns-clause-known c = let p = c.args.pass.now in let q = c.install-answer.new.pass in let e = c.install-answer.ensures in let f = c.complete_met.ensures in
     knows_still q c.complete_met.new.pass f.same f.attempt f.keeps c.args.place (knows_still p q e.pass e.attempt e.keeps c.args.place c.requires.known)
+
+pub returns-clause-keeps : goal.returns-clause-keeps
+returns-clause-keeps c = λ x known. let p = c.args.pass.now in let q = c.install-answer.new.pass in let e = c.install-answer.ensures in let f = c.complete_met.ensures in
+    knows_still q c.complete_met.new.pass f.same f.attempt f.keeps x (knows_still p q e.pass e.attempt e.keeps x known)

@@ -1,15 +1,11 @@
 -- What the steps of an exchange tell leaves the own install as it was.
 use Rattle.std.proofs.Common.{[], ◌∷◌, sym, subst, inl, inr, ⊎_elim}
 use Rattle.pc_rule_law.specs.Conditions.{IsFree}
-use Rattle.pc_rule_law.specs.Plays.{IsLater}
 use Rattle.pc_rule_law.specs.Views.{removed, View, clock_at, with_notes}
 use Rattle.pc_rule_law.proofs.Lists.{has_right}
 use Rattle.pc_rule.specs.Passes.{view}
+use Rattle.board_trials.proofs.Staying.{free_later}
 use Rattle.board_trials.proofs.steps.stored_and_loaded.Goals as goal
-
-free_later : (v w : View) → IsLater v w → IsFree v → IsFree w
-free_later v w l free = subst IsFree (sym l.same) (⊎_elim (λ fresh. inl fresh)
-    (λ gone. inr (l.more (removed v.seat v.install.number) gone)) free)
 
 pub returns-clause-free : goal.returns-clause-free
 returns-clause-free c = let v : View = view c.args.pass.now in let v1 : View = view c.step_9-clock.new.pass in

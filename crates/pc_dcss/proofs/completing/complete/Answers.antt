@@ -8,6 +8,8 @@ use Rattle.pc_rule.proofs.Calls.{pass_stays}
 use Rattle.pc_dcss.proofs.Staying.{notes_ranged, later_then}
 use Rattle.pc_dcss.proofs.Known.{Refers, refers, place_small, knows_words}
 use Rattle.pc_dcss.proofs.completing.complete.Goals as goal
+use Rattle.pc_rule.specs.Passes.{knows}
+use Rattle.pc_dcss.proofs.Learnt.{learns_then}
 
 pub words_of-words-requires-clause-word : goal.words_of-words-requires-clause-word
 words_of-words-requires-clause-word g c = let b = c.args.board.now in let p = c.load_words.new.pass in
@@ -36,3 +38,6 @@ take-requires-clause-known g c κs within = let b = c.args.board.now in let p = 
 
 pub returns-in-Some-clause-later : goal.returns-in-Some-clause-later
 returns-in-Some-clause-later g c = later_then (view c.args.pass.now) (view c.load_words.new.pass) (view c.take.new.pass) c.load_words.ensures.later c.take.ensures.later
+
+pub returns-in-Some-clause-learns : goal.returns-in-Some-clause-learns
+returns-in-Some-clause-learns g c = learns_then (knows c.args.pass.now) (knows c.load_words.new.pass) (knows c.take.new.pass) c.load_words.ensures.learns c.take.ensures.learns

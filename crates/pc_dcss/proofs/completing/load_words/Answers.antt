@@ -1,5 +1,5 @@
 -- The loads of a descriptor: their lemma, at the views that they leave.
-use Rattle.std.proofs.Common.{◌≡◌, ◌+◌, ◌-◌, subst, arith}
+use Rattle.std.proofs.Common.{◌≡◌, ◌∙◌, ◌+◌, ◌-◌, subst, arith}
 use Rattle.pc_rule_law.specs.Plays.{InstallLoaded}
 use Rattle.pc_rule.specs.Passes.{view, board_size}
 use Rattle.pc_rule.proofs.BoardSizes.{few_seats}
@@ -7,6 +7,8 @@ use Rattle.pc_dcss.proofs.Staying.{notes_ranged, later_then}
 use Rattle.pc_dcss.proofs.Known.{met_seat}
 use Rattle.pc_dcss.proofs.Loads.{of_seat, loads_known, loads_gone}
 use Rattle.pc_dcss.proofs.completing.load_words.Goals as goal
+use Rattle.pc_rule.specs.Passes.{knows}
+use Rattle.pc_dcss.proofs.Learnt.{learns_same}
 
 pub overflow_add-of : goal.overflow_add-of
 overflow_add-of g c = let few = few_seats c.args.board.now in
@@ -55,3 +57,11 @@ returns-then-number-r-clause-later g c = let v1 = view c.step_4-op.new.pass in l
 pub returns-clause-later : goal.returns-clause-later
 returns-clause-later g c = let v1 = view c.step_4-op.new.pass in let v2 = view c.step_4-place.new.pass in let v3 = view c.step_4-old.new.pass in let v4 = view c.step_4-number.new.pass in
     later_then (view c.args.pass.now) v1 v4 c.step_4-op.ensures.told.later (later_then v1 v2 v4 c.step_4-place.ensures.told.later (later_then v2 v3 v4 c.step_4-old.ensures.told.later c.step_4-number.ensures.told.later))
+
+pub returns-then-number-r-clause-learns : goal.returns-then-number-r-clause-learns
+returns-then-number-r-clause-learns g c = learns_same (knows c.args.pass.now) (knows c.step_4-number.new.pass)
+    (c.step_4-number.ensures.learnt.0 ∙ (c.step_4-old.ensures.learnt.0 ∙ (c.step_4-place.ensures.learnt.0 ∙ c.step_4-op.ensures.learnt.0)))
+
+pub returns-clause-learns : goal.returns-clause-learns
+returns-clause-learns g c = learns_same (knows c.args.pass.now) (knows c.step_4-number.new.pass)
+    (c.step_4-number.ensures.learnt.0 ∙ (c.step_4-old.ensures.learnt.0 ∙ (c.step_4-place.ensures.learnt.0 ∙ c.step_4-op.ensures.learnt.0)))

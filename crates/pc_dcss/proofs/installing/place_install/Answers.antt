@@ -15,6 +15,9 @@ use Rattle.pc_rule.proofs.BoardSizes.{few_seats}
 use Rattle.pc_dcss.proofs.Staying.{notes_ranged}
 use Rattle.pc_dcss.proofs.Puts.{place_ranged, place_still}
 use Rattle.pc_dcss.proofs.installing.place_install.Goals as goal
+use Rattle.pc_rule.specs.Passes.{knows}
+use Rattle.pc_dcss.specs.Installs.{IsNews}
+use Rattle.pc_dcss.proofs.Learnt.{learns_none, learns_then}
 
 pub describe-requires-clause-op : goal.describe-requires-clause-op
 describe-requires-clause-op g c κs within = let b = c.args.board.now in let p = c.args.pass.now in let few = few_seats b in
@@ -54,3 +57,9 @@ put_install-requires-clause-ready g c = λ _ _. let own : Ref = record { kind = 
       old_word = refl;
       listed = place_still v w record { notes = λ x h. h; seat = refl; size = refl; attempt = refl; posted = refl } c.args.op c.args.place c.requires.place;
     }
+
+pub returns-clause-learns : goal.returns-clause-learns
+returns-clause-learns g c = learns_then (knows c.args.pass.now) (knows c.describe.new.pass) (knows c.put_install.new.pass) c.describe.ensures.learns c.put_install.ensures.learns
+
+pub returns-clause-fresh : goal.returns-clause-fresh
+returns-clause-fresh g c = subst (λ (u : View). IfErr c.put_install.result (λ i. IfMet i (IsNews u.notes c.args.place))) c.describe.ensures.told c.put_install.ensures.fresh

@@ -7,6 +7,9 @@ use Rattle.pc_rule.specs.Passes.{view, board_size}
 use Rattle.pc_dcss.proofs.Staying.{notes_ranged}
 use Rattle.pc_dcss.proofs.Puts.{install_again, keeps_with_more, place_ranged, entry_known, placed_by_hit, held_now, met_now, differs_now, not_old}
 use Rattle.pc_dcss.proofs.installing.put_install.Goals as goal
+use Rattle.pc_rule.specs.Passes.{whole}
+use Rattle.pc_dcss.proofs.Puts.{new_now}
+use Rattle.pc_dcss.proofs.Learnt.{learns_swapped}
 
 pub plain-old-requires : goal.plain-old-requires
 plain-old-requires g c = let b = c.args.board.now in let p = c.args.pass.now in
@@ -57,7 +60,7 @@ returns-clause-met g c = met_now (view c.args.pass.now) (view c.step_6-found.new
 pub returns-clause-differs : goal.returns-clause-differs
 returns-clause-differs g c = differs_now (view c.args.pass.now) (view c.step_6-found.new.pass) c.args.op c.args.place (kind c.step_6-found.result)
     (c.step_6-found.ensures.told.miss c.if-found-old.false) c.refusal.result
-    (not_old c.step_6-found.result c.plain-old.result c.args.place.old c.step_6-found.ensures.told.word c.plain-old.ensures.raw c.if-found-old.false) c.step_6-found.ensures.told.plain c.refusal.ensures.differs
+    (not_old c.step_6-found.result c.plain-old.result c.args.place.old c.step_6-found.ensures.told.word c.plain-old.ensures.raw c.if-found-old.false) c.refusal.ensures.differs
 
 pub returns-then-found-old-clause-adds : goal.returns-then-found-old-clause-adds
 returns-then-found-old-clause-adds g c = let v : View = view c.args.pass.now in
@@ -69,3 +72,12 @@ returns-clause-adds g c = (found c.args.place.node c.args.place.field (kind c.st
 pub returns-clause-held : goal.returns-clause-held
 returns-clause-held g c = held_now (view c.args.pass.now) (view c.step_6-found.new.pass) c.args.op c.args.place (kind c.step_6-found.result)
     (c.step_6-found.ensures.told.miss c.if-found-old.false) c.refusal.result c.refusal.ensures.held
+
+pub returns-then-found-old-clause-learns : goal.returns-then-found-old-clause-learns
+returns-then-found-old-clause-learns g c = let at = c.args.place in learns_swapped (whole c.args.pass.now) at.node at.field c.plain-old.result c.install_ref-install.result c.step_6-found.result (whole c.step_6-found.new.pass) c.step_6-found.ensures.learnt
+
+pub returns-clause-learns : goal.returns-clause-learns
+returns-clause-learns g c = let at = c.args.place in learns_swapped (whole c.args.pass.now) at.node at.field c.plain-old.result c.install_ref-install.result c.step_6-found.result (whole c.step_6-found.new.pass) c.step_6-found.ensures.learnt
+
+pub returns-clause-fresh : goal.returns-clause-fresh
+returns-clause-fresh g c = new_now (view c.args.pass.now) c.args.place (kind c.step_6-found.result) c.refusal.result c.refusal.ensures.met c.step_6-found.ensures.told.present c.step_6-found.ensures.told.unclean

@@ -9,6 +9,8 @@ use Rattle.pc_dcss.proofs.Loads.{of_seat}
 use Rattle.pc_dcss.proofs.Staying.{is_noted, noted_before, noted_after, decided_after, later_then, on_held, on_decided}
 use Rattle.pc_dcss.proofs.Takes.{decided_by_status}
 use Rattle.pc_dcss.proofs.taking.take.Goals as goal
+use Rattle.pc_rule.specs.Passes.{knows}
+use Rattle.pc_dcss.proofs.Learnt.{learns_then}
 
 pub put_value-requires-clause-decided : goal.put_value-requires-clause-decided
 put_value-requires-clause-decided g c κs within = let w = c.args.words in
@@ -41,3 +43,9 @@ returns-then-is_undecided-clause-decided g c = let w = c.args.words in
 
 pub returns-clause-later : goal.returns-clause-later
 returns-clause-later g c = later_then (view c.args.pass.now) (view c.step_7.new.pass) (view c.put_value.new.pass) c.step_7.ensures.told.later c.put_value.ensures.later
+
+pub returns-then-is_undecided-clause-learns : goal.returns-then-is_undecided-clause-learns
+returns-then-is_undecided-clause-learns g c = learns_then (knows c.args.pass.now) (knows c.step_7.new.pass) (knows c.put_reference.new.pass) c.step_7.ensures.learnt.learns c.put_reference.ensures.learns
+
+pub returns-clause-learns : goal.returns-clause-learns
+returns-clause-learns g c = learns_then (knows c.args.pass.now) (knows c.step_7.new.pass) (knows c.put_value.new.pass) c.step_7.ensures.learnt.learns c.put_value.ensures.learns

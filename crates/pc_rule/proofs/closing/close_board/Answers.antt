@@ -1,5 +1,5 @@
-use Rattle.std.proofs.Common.{rules, ◌≡◌, ℕ, ◌+◌, ◌<◌, true, List, length, sym, ap, ◌∙◌, subst, arith}
-use Rattle.pc_rule_law.specs.Board.{Size, words_of}
+use Rattle.std.proofs.Common.{rules, ◌≡◌, ◌+◌, true, List, length, refl, sym, ap, ◌∙◌, subst}
+use Rattle.pc_rule_law.specs.Board.{words_of}
 use Rattle.pc_rule_law.specs.Conditions.{IsFree}
 use Rattle.pc_rule_law.specs.Views.{View}
 use Rattle.std.specs.List.Sorted.{IsPermutation}
@@ -8,9 +8,11 @@ use Rattle.pc_model.specs.declared.call.Entry.{Entry}
 use Rattle.pc_rule.specs.Passes.{view, board_size, recorded, IsPassOf}
 use Rattle.pc_rule.specs.Recorded.{recorded_by, HasRoomFor}
 use Rattle.pc_rule.proofs.Rooms.{recorded_last}
-use Rattle.pc_rule.proofs.Remaining.{same_size, opening_stands}
+use Rattle.pc_rule.proofs.Remaining.{same_size, closed_stands}
 use Rattle.pc_rule.proofs.Ends.{each_front, each_last}
-use Rattle.pc_rule.proofs.Left.{cells_stand, none_stand}
+use Rattle.pc_rule.specs.Left.{told_by}
+use Rattle.pc_rule.proofs.Noted.{told_last}
+use Rattle.pc_rule.proofs.Left.{run_left, none_stand}
 use Rattle.pc_rule.proofs.closing.close_board.Goals as goal
 
 pub take_all-requires-clause-last : goal.take_all-requires-clause-last
@@ -46,16 +48,17 @@ end-table-requires-clause-free g c = λ _ _. let b = c.args.board in
     subst IsFree (sym c.take_all.ensures.pass.1) (each_last c.args.passes.items c.pop.new.self.items c.in-Some.last (λ i p. IsPassOf b p × ((view p).seat ≡ i) × IsFree (view p)) c.in-Some.ensures.items c.requires.passes.order).2
 
 pub returns-clause-installs : goal.returns-clause-installs
-returns-clause-installs g c = none_stand c.args.board g.H.Shape.form _ c.end-table.ensures.closed
+returns-clause-installs g c = none_stand c.args.board g.H.Shape.form _ _ c.end-table.ensures.closed
 
 pub returns-clause-cells : goal.returns-clause-cells
-returns-clause-cells g c = cells_stand c.args.board g.H.Shape.form _ c.end-table.ensures.closed
+returns-clause-cells g c = let front = c.pop.new.self.items in run_left _ c.args.board g.H.Shape.form _ _ refl (same_size c.args.board) c.end-table.ensures.closed c.args.passes.items
+    (ap told_by c.in-Some.ensures.items ∙ (told_last front c.in-Some.last ∙ sym c.take_all.ensures.told))
 
 pub invariant_of-result : goal.invariant_of-result
 invariant_of-result g c = let e = c.end-table.ensures in let b = c.args.board in record {
   small = b.small;
   laid = (e.laid.0, e.laid.1 ∙ ap words_of (sym (same_size b)), e.laid.2);
-  closed = ∣ opening_stands b g.H.Shape.form _ e.closed ∣₁;
+  closed = ∣ closed_stands b g.H.Shape.form _ _ e.closed ∣₁;
 }
 
 pub returns-clause-history : goal.returns-clause-history

@@ -1,44 +1,50 @@
 -- The step's lemma, at the address of the word.
-use Rattle.std.proofs.Common.{◌≡◌, refl, sym, ap, ◌∙◌}
+use Rattle.std.proofs.Common.{◌≡◌, ℕ, List, ◌∷◌, refl, sym, ap, ◌∙◌, subst}
 use Rattle.pc_rule_law.specs.Board.{Size, Place, at_own, own_word, Inside}
 use Rattle.pc_rule_law.specs.Views.{View}
-use Rattle.pc_rule_law.specs.Plays.{after_write, Wrote}
-use Rattle.pc_rule_law.specs.Tables.{size_of, sound_cells}
+use Rattle.pc_rule_law.specs.Tables.{size_of}
 use Rattle.pc_rule_law.proofs.Places.{within}
-use Rattle.pc_rule_law.proofs.DescriptorStores.{store_word}
+use Rattle.pc_exchange_law.specs.WholePlays.{StoredWord}
+use Rattle.pc_exchange_law.specs.Wholes.{Whole}
+use Rattle.pc_exchange_law.proofs.WholeStores.{whole_store_word}
+use Rattle.pc_rule.specs.Attempts.{AgreeOnAttempt}
 use Rattle.pc_rule.proofs.Listing.{still_listed}
 use Rattle.pc_rule.proofs.Telling.{told_at}
 use Rattle.pc_rule.proofs.exchanges.step_10.Goals as goal
 
 pub store-requires : goal.store-requires
-store-requires g c = let key = c.args.board.now.table.shared.key in let z : Size = size_of key in let v : View = c.args.pass.now.seat.me.0 in let p : Place = at_own v.seat (own_word c.args.place) in
-    let n : c.args.pass.now.index ≡ v.seat = sym c.args.pass.now.numbered in
-    let inside : Inside z p = (c.requires.pass.2, c.requires.place) in (
-      c.requires.pass.0,
-      rw (c.own_word-word.ensures, n, c.args.board.now.wide.0) (within z p inside),
-      rw (c.own_word-word.ensures, n) (store_word (sound_cells g.H.Shape.form key) z _ _ c.args.pass.now.seat.me c.args.place c.args.new c.requires.pass.1 c.args.pass.now.live c.requires.may inside),
-    )
+store-requires g c = let x : Whole = c.args.pass.now.seat.me.0 in let v : View = x.view in let z : Size = size_of c.args.board.now.table.shared.key in let p : Place = at_own v.seat (own_word c.args.place) in let n : c.args.pass.now.index ≡ v.seat = sym c.args.pass.now.numbered in let inside : Inside z p = (c.requires.pass.2, c.requires.place) in (
+  c.requires.pass.0,
+  rw (c.own_word-word.ensures, n, c.args.board.now.wide.0) (within z p inside),
+  rw (c.own_word-word.ensures, n) (whole_store_word g.H.Shape.form z _ _ c.args.pass.now.seat.me c.args.place c.args.new c.requires.pass.1 c.args.pass.now.live (c.args.pass.now.one_attempt.busy ∙ c.requires.may.1) inside),
+)
 
 pub invariant_of-pass : goal.invariant_of-pass
-invariant_of-pass g c = let t = c.store.ensures.2 in let v : View = c.args.pass.now.seat.me.0 in let w : View = c.store.new.seat.me.0 in let z : Size = size_of c.args.board.now.table.shared.key in let p : Place = at_own v.seat (own_word c.args.place) in
-    let n : c.args.pass.now.index ≡ v.seat = sym c.args.pass.now.numbered in
-    let inside : Inside z p = (c.requires.pass.2, c.requires.place) in
-    let told : w ≡ after_write v c.args.place c.args.new = told_at v z c.own_word-word.result (Wrote v c.args.new w) p c.requires.pass.1 t.2 inside (rw (c.own_word-word.ensures, n) refl) refl in
+invariant_of-pass g c = let x : Whole = c.args.pass.now.seat.me.0 in let v : View = x.view in let z : Size = size_of c.args.board.now.table.shared.key in let p : Place = at_own v.seat (own_word c.args.place) in let n : c.args.pass.now.index ≡ v.seat = sym c.args.pass.now.numbered in let inside : Inside z p = (c.requires.pass.2, c.requires.place) in
+    let t = c.store.ensures.2 in let y : Whole = c.store.new.seat.me.0 in
+    let told = told_at v z c.own_word-word.result (StoredWord x c.args.new c.store.new.seat.me.0) p c.requires.pass.1 c.store.ensures.2.2 inside (rw (c.own_word-word.ensures, n) refl) refl in
     record {
       live = t.1.0 ∙ c.args.pass.now.live;
       numbered = t.1.1 ∙ c.args.pass.now.numbered;
-      counted = ap (λ (w : View). w.install.number) told ∙ c.args.pass.now.counted;
-      tried = ap (λ (w : View). w.attempt.number) told ∙ c.args.pass.now.tried;
-      pending = ap (λ (w : View). w.attempt.published) told ∙ c.args.pass.now.pending;
+      counted = ap (λ (u : Whole). u.view.install.number) told ∙ c.args.pass.now.counted;
+      tried = ap (λ (u : Whole). u.view.attempt.number) told ∙ c.args.pass.now.tried;
+      pending = ap (λ (u : Whole). u.view.attempt.published) told ∙ c.args.pass.now.pending;
       holds_none = t.0 ∙ c.args.pass.now.holds_none;
+      one_attempt = subst AgreeOnAttempt (sym told) record { number = c.args.pass.now.one_attempt.number; busy = c.args.pass.now.one_attempt.busy; words = ap (λ (l : List (ℕ × ℕ)). (c.args.place, c.args.new) ∷ l) c.args.pass.now.one_attempt.words };
       few = c.args.pass.now.few;
       roomy = c.args.pass.now.roomy;
       ample = c.args.pass.now.ample;
-      listing = still_listed v c.store.new.seat.me.0 c.args.pass.now.listed.items t.1 c.args.pass.now.listing;
+      listing = still_listed v y.view c.args.pass.now.listed.items t.1 c.args.pass.now.listing;
     }
 
 pub returns-clause-told : goal.returns-clause-told
-returns-clause-told g c = let v : View = c.args.pass.now.seat.me.0 in let z : Size = size_of c.args.board.now.table.shared.key in let p : Place = at_own v.seat (own_word c.args.place) in
-    let n : c.args.pass.now.index ≡ v.seat = sym c.args.pass.now.numbered in
-    let inside : Inside z p = (c.requires.pass.2, c.requires.place) in
-    told_at v z c.own_word-word.result (Wrote v c.args.new c.store.new.seat.me.0) p c.requires.pass.1 c.store.ensures.2.2 inside (rw (c.own_word-word.ensures, n) refl) refl
+returns-clause-told g c = let x : Whole = c.args.pass.now.seat.me.0 in let v : View = x.view in let z : Size = size_of c.args.board.now.table.shared.key in let p : Place = at_own v.seat (own_word c.args.place) in let n : c.args.pass.now.index ≡ v.seat = sym c.args.pass.now.numbered in let inside : Inside z p = (c.requires.pass.2, c.requires.place) in let y : Whole = c.store.new.seat.me.0 in
+    let told = told_at v z c.own_word-word.result (StoredWord x c.args.new c.store.new.seat.me.0) p c.requires.pass.1 c.store.ensures.2.2 inside (rw (c.own_word-word.ensures, n) refl) refl in ap (λ (u : Whole). u.view) told
+
+pub returns-clause-learnt : goal.returns-clause-learnt
+returns-clause-learnt g c = let x : Whole = c.args.pass.now.seat.me.0 in let v : View = x.view in let z : Size = size_of c.args.board.now.table.shared.key in let p : Place = at_own v.seat (own_word c.args.place) in let n : c.args.pass.now.index ≡ v.seat = sym c.args.pass.now.numbered in let inside : Inside z p = (c.requires.pass.2, c.requires.place) in let y : Whole = c.store.new.seat.me.0 in
+    let told = told_at v z c.own_word-word.result (StoredWord x c.args.new c.store.new.seat.me.0) p c.requires.pass.1 c.store.ensures.2.2 inside (rw (c.own_word-word.ensures, n) refl) refl in ap (λ (u : Whole). u.knows) told
+
+pub returns-clause-aim : goal.returns-clause-aim
+returns-clause-aim g c = let x : Whole = c.args.pass.now.seat.me.0 in let v : View = x.view in let z : Size = size_of c.args.board.now.table.shared.key in let p : Place = at_own v.seat (own_word c.args.place) in let n : c.args.pass.now.index ≡ v.seat = sym c.args.pass.now.numbered in let inside : Inside z p = (c.requires.pass.2, c.requires.place) in let y : Whole = c.store.new.seat.me.0 in
+    let told = told_at v z c.own_word-word.result (StoredWord x c.args.new c.store.new.seat.me.0) p c.requires.pass.1 c.store.ensures.2.2 inside (rw (c.own_word-word.ensures, n) refl) refl in ap (λ (u : Whole). u.aim) told

@@ -7,7 +7,7 @@ abbrev pub invariant-loop-at : goal.invariant-loop-at
 invariant-loop-at l = record {
   length : (length l.words.items ≡ l.at) × (l.at ≤ l.length);
   room : l.words.cap ≡ l.initial.words.cap;
-  written : AreWritten l.opening l.posted l.words.items;
+  written : AreWritten l.opening l.words.items;
 }
 
 abbrev pub decreases-loop-at : goal.decreases-loop-at

@@ -1,38 +1,42 @@
 -- The step's lemma, at the address of the word.
 use Rattle.std.proofs.Common.{ap, ◌∙◌}
-use Rattle.pc_rule_law.specs.Board.{Size, Place, at_cell}
+use Rattle.pc_rule_law.specs.Board.{Size, Place, at_cell, Inside}
 use Rattle.pc_rule_law.specs.Views.{View}
-use Rattle.pc_rule_law.specs.Plays.{LoadedCell}
-use Rattle.pc_rule_law.specs.Tables.{size_of, sound_cells}
+use Rattle.pc_rule_law.specs.Tables.{size_of}
 use Rattle.pc_rule_law.proofs.Places.{within}
-use Rattle.pc_rule_law.proofs.Looks.{load_cell}
+use Rattle.pc_exchange_law.specs.WholePlays.{SeesCell}
+use Rattle.pc_exchange_law.specs.Wholes.{Whole}
+use Rattle.pc_exchange_law.proofs.WholeCells.{whole_load_cell}
+use Rattle.pc_rule.proofs.Attempts.{agree_still}
 use Rattle.pc_rule.proofs.Listing.{still_listed}
 use Rattle.pc_rule.proofs.Telling.{told_at}
 use Rattle.pc_rule.proofs.steps.step_5.Goals as goal
 
 pub load-requires : goal.load-requires
-load-requires g c = let key = c.args.board.now.table.shared.key in let z : Size = size_of key in let p : Place = at_cell c.args.node c.args.field in (
+load-requires g c = let x : Whole = c.args.pass.now.seat.me.0 in let v : View = x.view in let z : Size = size_of c.args.board.now.table.shared.key in let p : Place = at_cell c.args.node c.args.field in let inside : Inside z p = c.requires.inside in (
   c.requires.pass.0,
-  rw (c.cell_word-word.ensures, c.args.board.now.wide.0) (within z p c.requires.inside),
-  rw c.cell_word-word.ensures (load_cell (sound_cells g.H.Shape.form key) z (λ cells sound n f. sound.1 n f) _ _ c.args.pass.now.seat.me c.args.node c.args.field c.requires.pass.1 c.args.pass.now.live c.requires.inside),
+  rw (c.cell_word-word.ensures, c.args.board.now.wide.0) (within z p inside),
+  rw c.cell_word-word.ensures (whole_load_cell g.H.Shape.form z _ _ c.args.pass.now.seat.me c.args.node c.args.field c.requires.pass.1 c.args.pass.now.live inside),
 )
 
 pub invariant_of-pass : goal.invariant_of-pass
-invariant_of-pass g c = let t = c.load.ensures.2 in let v : View = c.args.pass.now.seat.me.0 in let z : Size = size_of c.args.board.now.table.shared.key in let p : Place = at_cell c.args.node c.args.field in
-    let told = told_at v z c.cell_word-word.result (LoadedCell v c.load.result c.load.new.seat.me.0) p c.requires.pass.1 t.2 c.requires.inside c.cell_word-word.ensures in
+invariant_of-pass g c = let x : Whole = c.args.pass.now.seat.me.0 in let v : View = x.view in let z : Size = size_of c.args.board.now.table.shared.key in let p : Place = at_cell c.args.node c.args.field in let inside : Inside z p = c.requires.inside in
+    let t = c.load.ensures.2 in let y : Whole = c.load.new.seat.me.0 in
+    let told = told_at v z c.cell_word-word.result (SeesCell x c.load.result c.load.new.seat.me.0) p c.requires.pass.1 c.load.ensures.2.2 inside c.cell_word-word.ensures in
     record {
       live = t.1.0 ∙ c.args.pass.now.live;
       numbered = t.1.1 ∙ c.args.pass.now.numbered;
-      counted = ap (λ (w : View). w.install.number) told.1 ∙ c.args.pass.now.counted;
-      tried = ap (λ (w : View). w.attempt.number) told.1 ∙ c.args.pass.now.tried;
-      pending = ap (λ (w : View). w.attempt.published) told.1 ∙ c.args.pass.now.pending;
+      counted = ap (λ (u : View). u.install.number) told.later.same ∙ c.args.pass.now.counted;
+      tried = ap (λ (u : View). u.attempt.number) told.later.same ∙ c.args.pass.now.tried;
+      pending = ap (λ (u : View). u.attempt.published) told.later.same ∙ c.args.pass.now.pending;
       holds_none = t.0 ∙ c.args.pass.now.holds_none;
+      one_attempt = agree_still x y (ap (λ (u : View). u.attempt) told.later.same) told.seen.learns.own c.args.pass.now.one_attempt;
       few = c.args.pass.now.few;
       roomy = c.args.pass.now.roomy;
       ample = c.args.pass.now.ample;
-      listing = still_listed v c.load.new.seat.me.0 c.args.pass.now.listed.items t.1 c.args.pass.now.listing;
+      listing = still_listed v y.view c.args.pass.now.listed.items t.1 c.args.pass.now.listing;
     }
 
 pub returns-clause-told : goal.returns-clause-told
-returns-clause-told g c = let v : View = c.args.pass.now.seat.me.0 in let z : Size = size_of c.args.board.now.table.shared.key in let p : Place = at_cell c.args.node c.args.field in
-    told_at v z c.cell_word-word.result (LoadedCell v c.load.result c.load.new.seat.me.0) p c.requires.pass.1 c.load.ensures.2.2 c.requires.inside c.cell_word-word.ensures
+returns-clause-told g c = let x : Whole = c.args.pass.now.seat.me.0 in let v : View = x.view in let z : Size = size_of c.args.board.now.table.shared.key in let p : Place = at_cell c.args.node c.args.field in let inside : Inside z p = c.requires.inside in let y : Whole = c.load.new.seat.me.0 in
+    let told = told_at v z c.cell_word-word.result (SeesCell x c.load.result c.load.new.seat.me.0) p c.requires.pass.1 c.load.ensures.2.2 inside c.cell_word-word.ensures in told

@@ -2,45 +2,53 @@
 use Rattle.std.proofs.Common.{◌-◌, ap, ◌∙◌, arith}
 use Rattle.pc_rule_law.specs.Board.{Size, Place, at_own, own_status, Inside}
 use Rattle.pc_rule_law.specs.Views.{View}
-use Rattle.pc_rule_law.specs.Tables.{size_of, sound_cells}
+use Rattle.pc_rule_law.specs.Tables.{size_of}
 use Rattle.pc_rule_law.proofs.Places.{within}
+use Rattle.pc_exchange_law.specs.WholePlays.{SeesStatus}
+use Rattle.pc_exchange_law.specs.Wholes.{Whole}
+use Rattle.pc_exchange_law.proofs.WholeLooks.{whole_load_status}
+use Rattle.pc_rule.proofs.Attempts.{agree_still}
 use Rattle.pc_rule.proofs.Listing.{still_listed}
 use Rattle.pc_rule.proofs.Telling.{told_at}
-use Rattle.pc_rule_law.specs.Plays.{LoadedStatus}
-use Rattle.pc_rule_law.proofs.StatusLooks.{load_status}
 use Rattle.pc_rule.proofs.steps.step_7.Goals as goal
 
 pub load-requires : goal.load-requires
-load-requires g c = let key = c.args.board.now.table.shared.key in let z : Size = size_of key in let p : Place = at_own (c.args.of - 1) own_status in
-    let inside : Inside z p = ((let of = c.requires.of in omega arith), tt) in (
-      c.requires.pass.0,
-      rw (c.own_word-word.ensures, c.args.board.now.wide.0) (within z p inside),
-      rw c.own_word-word.ensures (load_status (sound_cells g.H.Shape.form key) z _ _ c.args.pass.now.seat.me (c.args.of - 1) c.requires.pass.1 c.args.pass.now.live inside),
-    )
+load-requires g c = let x : Whole = c.args.pass.now.seat.me.0 in let v : View = x.view in let z : Size = size_of c.args.board.now.table.shared.key in let p : Place = at_own (c.args.of - 1) own_status in let inside : Inside z p = ((let of = c.requires.of in omega arith), tt) in (
+  c.requires.pass.0,
+  rw (c.own_word-word.ensures, c.args.board.now.wide.0) (within z p inside),
+  rw c.own_word-word.ensures (whole_load_status g.H.Shape.form z _ _ c.args.pass.now.seat.me (c.args.of - 1) c.requires.pass.1 c.args.pass.now.live inside),
+)
 
 pub invariant_of-pass : goal.invariant_of-pass
-invariant_of-pass g c = let t = c.load.ensures.2 in let v : View = c.args.pass.now.seat.me.0 in let z : Size = size_of c.args.board.now.table.shared.key in let p : Place = at_own (c.args.of - 1) own_status in
-    let inside : Inside z p = ((let of = c.requires.of in omega arith), tt) in
-    let told = told_at v z c.own_word-word.result (LoadedStatus v c.load.result c.load.new.seat.me.0) p c.requires.pass.1 t.2 inside c.own_word-word.ensures in
+invariant_of-pass g c = let x : Whole = c.args.pass.now.seat.me.0 in let v : View = x.view in let z : Size = size_of c.args.board.now.table.shared.key in let p : Place = at_own (c.args.of - 1) own_status in let inside : Inside z p = ((let of = c.requires.of in omega arith), tt) in
+    let t = c.load.ensures.2 in let y : Whole = c.load.new.seat.me.0 in
+    let told = told_at v z c.own_word-word.result (SeesStatus x c.load.result c.load.new.seat.me.0) p c.requires.pass.1 c.load.ensures.2.2 inside c.own_word-word.ensures in
     record {
       live = t.1.0 ∙ c.args.pass.now.live;
       numbered = t.1.1 ∙ c.args.pass.now.numbered;
-      counted = ap (λ (w : View). w.install.number) told.1.later.same ∙ c.args.pass.now.counted;
-      tried = ap (λ (w : View). w.attempt.number) told.1.later.same ∙ c.args.pass.now.tried;
-      pending = ap (λ (w : View). w.attempt.published) told.1.later.same ∙ c.args.pass.now.pending;
+      counted = ap (λ (u : View). u.install.number) told.1.later.same ∙ c.args.pass.now.counted;
+      tried = ap (λ (u : View). u.attempt.number) told.1.later.same ∙ c.args.pass.now.tried;
+      pending = ap (λ (u : View). u.attempt.published) told.1.later.same ∙ c.args.pass.now.pending;
       holds_none = t.0 ∙ c.args.pass.now.holds_none;
+      one_attempt = agree_still x y (ap (λ (u : View). u.attempt) told.1.later.same) told.2.learns.own c.args.pass.now.one_attempt;
       few = c.args.pass.now.few;
       roomy = c.args.pass.now.roomy;
       ample = c.args.pass.now.ample;
-      listing = still_listed v c.load.new.seat.me.0 c.args.pass.now.listed.items t.1 c.args.pass.now.listing;
+      listing = still_listed v y.view c.args.pass.now.listed.items t.1 c.args.pass.now.listing;
     }
 
 pub returns-clause-word : goal.returns-clause-word
-returns-clause-word g c = let v : View = c.args.pass.now.seat.me.0 in let z : Size = size_of c.args.board.now.table.shared.key in let p : Place = at_own (c.args.of - 1) own_status in
-    let inside : Inside z p = ((let of = c.requires.of in omega arith), tt) in
-    (told_at v z c.own_word-word.result (LoadedStatus v c.load.result c.load.new.seat.me.0) p c.requires.pass.1 c.load.ensures.2.2 inside c.own_word-word.ensures).0
+returns-clause-word g c = let x : Whole = c.args.pass.now.seat.me.0 in let v : View = x.view in let z : Size = size_of c.args.board.now.table.shared.key in let p : Place = at_own (c.args.of - 1) own_status in let inside : Inside z p = ((let of = c.requires.of in omega arith), tt) in let y : Whole = c.load.new.seat.me.0 in
+    let told = told_at v z c.own_word-word.result (SeesStatus x c.load.result c.load.new.seat.me.0) p c.requires.pass.1 c.load.ensures.2.2 inside c.own_word-word.ensures in told.0
 
 pub returns-clause-told : goal.returns-clause-told
-returns-clause-told g c = let v : View = c.args.pass.now.seat.me.0 in let z : Size = size_of c.args.board.now.table.shared.key in let p : Place = at_own (c.args.of - 1) own_status in
-    let inside : Inside z p = ((let of = c.requires.of in omega arith), tt) in
-    (told_at v z c.own_word-word.result (LoadedStatus v c.load.result c.load.new.seat.me.0) p c.requires.pass.1 c.load.ensures.2.2 inside c.own_word-word.ensures).1
+returns-clause-told g c = let x : Whole = c.args.pass.now.seat.me.0 in let v : View = x.view in let z : Size = size_of c.args.board.now.table.shared.key in let p : Place = at_own (c.args.of - 1) own_status in let inside : Inside z p = ((let of = c.requires.of in omega arith), tt) in let y : Whole = c.load.new.seat.me.0 in
+    let told = told_at v z c.own_word-word.result (SeesStatus x c.load.result c.load.new.seat.me.0) p c.requires.pass.1 c.load.ensures.2.2 inside c.own_word-word.ensures in told.1
+
+pub returns-clause-learnt : goal.returns-clause-learnt
+returns-clause-learnt g c = let x : Whole = c.args.pass.now.seat.me.0 in let v : View = x.view in let z : Size = size_of c.args.board.now.table.shared.key in let p : Place = at_own (c.args.of - 1) own_status in let inside : Inside z p = ((let of = c.requires.of in omega arith), tt) in let y : Whole = c.load.new.seat.me.0 in
+    let told = told_at v z c.own_word-word.result (SeesStatus x c.load.result c.load.new.seat.me.0) p c.requires.pass.1 c.load.ensures.2.2 inside c.own_word-word.ensures in told.2
+
+pub returns-clause-aim : goal.returns-clause-aim
+returns-clause-aim g c = let x : Whole = c.args.pass.now.seat.me.0 in let v : View = x.view in let z : Size = size_of c.args.board.now.table.shared.key in let p : Place = at_own (c.args.of - 1) own_status in let inside : Inside z p = ((let of = c.requires.of in omega arith), tt) in let y : Whole = c.load.new.seat.me.0 in
+    let told = told_at v z c.own_word-word.result (SeesStatus x c.load.result c.load.new.seat.me.0) p c.requires.pass.1 c.load.ensures.2.2 inside c.own_word-word.ensures in told.3

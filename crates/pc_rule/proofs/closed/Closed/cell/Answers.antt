@@ -6,7 +6,7 @@ use Rattle.pc_words.specs.Words.{IsWord}
 use Rattle.pc_rule_law.specs.Board.{Board}
 use Rattle.pc_rule_law.specs.Values.{IsPlainValue}
 use Rattle.pc_rule.specs.Left.{words_left, board_left}
-use Rattle.pc_rule.proofs.Left.{word_stored, cell_read, no_install_left, refers_left, only_left, opening_left}
+use Rattle.pc_rule.proofs.Left.{word_stored, cell_read, no_install_left, refers_left, only_left}
 use Rattle.pc_rule.proofs.closed.Closed.cell.Goals as goal
 
 pub kind_of-requires : goal.kind_of-requires
@@ -28,18 +28,10 @@ exchanged-requires-clause-held g c κs within = let left = c.args.self.now in le
 plain_says : (b : Board) (n : ℕ) (f : Field) (k : WordKind) (x : ℕ) → k ≡ b.cell n f → k ≡ Plain x → IsPlainValue b n f (b.cell n f) x
 plain_says b n f k x read is = subst (λ (w : WordKind). IsPlainValue b n f w x) (sym is ∙ read) refl
 
-pub returns-in-Plain-clause-plain : goal.returns-in-Plain-clause-plain
-returns-in-Plain-clause-plain g c = let left = c.args.self.now in let b : Board = board_left left in
+pub returns-in-Plain : goal.returns-in-Plain
+returns-in-Plain g c = let left = c.args.self.now in let b : Board = board_left left in
     let read : c.kind_of.result ≡ b.cell c.args.node c.args.field = cell_read left c.args.node c.args.field c.requires c.kind_of.result c.word-word.result c.cell_place.result c.kind_of.ensures.kind c.word-word.ensures c.cell_place.ensures in
-    only_left left c.args.node c.args.field c.requires c.in-Plain.value (plain_says b c.args.node c.args.field c.kind_of.result c.in-Plain.value read c.in-Plain.is)
+    record { plain = only_left left c.args.node c.args.field c.requires c.in-Plain.value (plain_says b c.args.node c.args.field c.kind_of.result c.in-Plain.value read c.in-Plain.is) }
 
-pub returns-in-Plain-clause-opening : goal.returns-in-Plain-clause-opening
-returns-in-Plain-clause-opening g c = let left = c.args.self.now in let b : Board = board_left left in
-    let read : c.kind_of.result ≡ b.cell c.args.node c.args.field = cell_read left c.args.node c.args.field c.requires c.kind_of.result c.word-word.result c.cell_place.result c.kind_of.ensures.kind c.word-word.ensures c.cell_place.ensures in
-    opening_left left c.args.node c.args.field c.requires c.in-Plain.value (plain_says b c.args.node c.args.field c.kind_of.result c.in-Plain.value read c.in-Plain.is)
-
-pub returns-in-Exchange-clause-plain : goal.returns-in-Exchange-clause-plain
-returns-in-Exchange-clause-plain g c = only_left c.args.self.now c.args.node c.args.field c.requires c.exchanged.result c.exchanged.ensures
-
-pub returns-in-Exchange-clause-opening : goal.returns-in-Exchange-clause-opening
-returns-in-Exchange-clause-opening g c = opening_left c.args.self.now c.args.node c.args.field c.requires c.exchanged.result c.exchanged.ensures
+pub returns-in-Exchange : goal.returns-in-Exchange
+returns-in-Exchange g c = record { plain = only_left c.args.self.now c.args.node c.args.field c.requires c.exchanged.result c.exchanged.ensures }

@@ -1,0 +1,26 @@
+-- No install stands of a pass after steps that leave its own.
+use Rattle.std.proofs.Common.{◌≡◌, ℕ, ◌+◌, [], ◌∷◌, refl, sym, subst, inl, inr, ⊎_elim}
+use mathlib.Core.Logic.{dite}
+use native.Mathlib.Decide.{ℕ_discrete}
+use Rattle.pc_rule_law.specs.Conditions.{IsFree}
+use Rattle.pc_rule_law.specs.Plays.{IsLater}
+use Rattle.pc_rule_law.proofs.Lists.{has_later}
+use Rattle.pc_rule_law.specs.Views.{removed, decided_below, View}
+use Rattle.pc_exchange_law.specs.WholePlays.{StatusTried, after_decided}
+use Rattle.pc_exchange_law.specs.Passes.{PassKnows}
+use Rattle.pc_exchange_law.specs.Wholes.{Whole}
+
+pub free_later : (v w : View) → IsLater v w → IsFree v → IsFree w
+free_later v w l free = subst IsFree (sym l.same) (⊎_elim (λ fresh. inl fresh)
+    (λ gone. inr (l.more (removed v.seat v.install.number) gone)) free)
+
+-- after a compare_exchange of a status that decides an attempt, whether it hits or not
+pub later_tried : (x : Whole) (p old r q a : ℕ) (k : PassKnows) (y : Whole) → StatusTried x p old r (λ z. z ≡ record x { view = after_decided x.view q a; knows = k }) y
+    → IsLater x.view y.view
+later_tried x p old r q a k y s = dite (ℕ_discrete r old)
+    (λ e. subst (λ (z : Whole). IsLater x.view z.view) (sym (s.hit e)) record {
+      same = refl;
+      adds = (decided_below q (a + 1) ∷ [], refl);
+      more = λ n h. has_later (decided_below q (a + 1)) x.view.notes n h;
+    })
+    (λ ne. (s.miss ne).1.later)

@@ -1,0 +1,35 @@
+-- One word more is clean; and then the own attempt may be cleared.
+use Rattle.std.proofs.Common.{rules, ◌≡◌, ℕ, length, sym, ap, ◌∙◌, subst, arith}
+use mathlib.Core.Logic.{dite}
+use native.Mathlib.Decide.{ℕ_discrete}
+use Rattle.pc_words.specs.declared.status.Stage.TheVariants.{Idle}
+use Rattle.pc_words.specs.Statuses.{packed}
+use Rattle.pc_rule_law.specs.Conditions.{IsFree}
+use Rattle.pc_exchange_law.specs.Wholes.{Whole}
+use Rattle.pc_rule.specs.Passes.{whole, listed}
+use Rattle.pc_kcas.proofs.Holding.{pass_published}
+use Rattle.board_trials.specs.Deciding.{IsCleanAt}
+use Rattle.board_trials.proofs.OwnSteps.{may_clear, clean_still}
+use Rattle.board_trials.proofs.deciding.cleared.Goals as goal
+
+pub loop-i-preserved : goal.loop-i-preserved
+loop-i-preserved c = let inv = c.loop-i.invariant in let e = c.replaced.ensures in let p = c.loop-i.pass in let q = c.replaced.new.pass in let lt = c.loop-i-test.true in let n = inv.count in record {
+  below = omega arith;
+  count = n ∙ ap (λ v. length v.items) (sym e.same.1);
+  same = search rules;
+  published = pass_published p q e.same e.attempt inv.published;
+  free = e.free;
+  succeeded = e.succeeded;
+  clean = λ k below. dite (ℕ_discrete k c.loop-i.i)
+      (λ (here : k ≡ c.loop-i.i). subst (IsCleanAt q) (sym here) (e.clean (search rules)))
+      (λ other. clean_still p q k e.same e.attempt e.keeps (inv.clean k (omega arith)));
+}
+
+pub step_16-requires-clause-may : goal.step_16-requires-clause-may
+step_16-requires-clause-may c κs = let inv = c.loop-i.invariant in let p = c.loop-i.pass in let n = inv.count in let ge = c.loop-i-test.false in (
+  c.pack-idle.ensures.packed ∙ ap (λ (k : ℕ). packed (record { number = k; stage = Idle })) (c.attempts.ensures ∙ sym p.one_attempt.number),
+  may_clear (whole p) (listed p) inv.published p.one_attempt inv.succeeded.0 inv.succeeded.1 (λ k lt. inv.clean k (omega arith)),
+)
+
+pub returns-clause-free : goal.returns-clause-free
+returns-clause-free c = subst (λ (x : Whole). IsFree x.view) (sym c.step_16.ensures.told) c.loop-i.invariant.free

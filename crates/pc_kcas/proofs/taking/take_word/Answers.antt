@@ -1,0 +1,59 @@
+-- The install, and where it met an install, the completion and another.
+use Rattle.std.proofs.Common.{◌∙◌, [], refl, subst}
+use Rattle.pc_rule_law.specs.Views.{held}
+use Rattle.pc_rule.specs.Passes.{view, knows}
+use Rattle.pc_dcss.specs.Installs.{IsMet, IfMet}
+use Rattle.pc_dcss.proofs.Learnt.{learns_then}
+use Rattle.pc_dcss.proofs.Meeting.{met_install}
+use Rattle.pc_dcss.proofs.Puts.{place_still}
+use Rattle.pc_dcss.proofs.Staying.{adds_then, noted_after, decided_after, on_held, on_decided}
+use Rattle.pc_kcas.proofs.TakeWords.{met_since, different_since, last_since, met_longer, different_longer, completed_since}
+use Rattle.pc_kcas.proofs.taking.take_word.Goals as goal
+
+pub try_again-again-requires-clause-met : goal.try_again-again-requires-clause-met
+try_again-again-requires-clause-met g c = λ _ _. let o = view c.args.pass.now in let u = view c.install-answer.new.pass in
+    met_install o u c.args.op c.in-Some.first c.args.place (subst (λ a. IfMet a (IsMet o u c.args.op c.args.place)) c.in-Some.ensures.met.0 c.install-answer.ensures.met) c.in-Some.ensures.met.1
+
+pub try_again-again-requires-clause-place : goal.try_again-again-requires-clause-place
+try_again-again-requires-clause-place g c = λ _ _. let e = c.install-answer.ensures in
+    place_still (view c.args.pass.now) (view c.install-answer.new.pass) record { notes = e.keeps; seat = e.pass.0.2; size = e.pass.0.1; attempt = e.attempt.0; posted = e.attempt.1 } c.args.op c.args.place c.requires.place
+
+pub returns-in-Some-clause-learns : goal.returns-in-Some-clause-learns
+returns-in-Some-clause-learns g c = learns_then (knows c.args.pass.now) (knows c.install-answer.new.pass) (knows c.try_again-again.new.pass) c.install-answer.ensures.learns c.try_again-again.ensures.learns
+
+pub returns-in-Some-clause-keeps : goal.returns-in-Some-clause-keeps
+returns-in-Some-clause-keeps g c = λ x h. c.try_again-again.ensures.keeps x (c.install-answer.ensures.keeps x h)
+
+pub returns-in-Some-clause-adds : goal.returns-in-Some-clause-adds
+returns-in-Some-clause-adds g c = adds_then (view c.args.pass.now) (view c.install-answer.new.pass) (view c.try_again-again.new.pass) c.install-answer.ensures.adds c.try_again-again.ensures.adds
+
+pub returns-in-Some-clause-attempt : goal.returns-in-Some-clause-attempt
+returns-in-Some-clause-attempt g c = let a = c.install-answer.ensures.attempt in let b = c.try_again-again.ensures.attempt in (b.0 ∙ a.0, b.1 ∙ a.1)
+
+pub returns-in-Some-clause-held : goal.returns-in-Some-clause-held
+returns-in-Some-clause-held g c = let op = c.args.op in let at = c.args.place in on_held _ _ c.try_again-again.result
+    (noted_after (view c.args.pass.now) (view c.install-answer.new.pass) (view c.try_again-again.new.pass) (held op.seat op.number at.node at.field) c.install-answer.ensures.adds) c.try_again-again.ensures.held
+
+pub returns-in-Some-clause-decided : goal.returns-in-Some-clause-decided
+returns-in-Some-clause-decided g c = on_decided _ _ c.try_again-again.result
+    (decided_after (view c.args.pass.now) (view c.install-answer.new.pass) (view c.try_again-again.new.pass) c.args.op.seat c.args.op.number c.install-answer.ensures.adds) c.try_again-again.ensures.decided
+
+pub returns-in-Some-clause-differs : goal.returns-in-Some-clause-differs
+returns-in-Some-clause-differs g c = different_longer (view c.args.pass.now) (view c.install-answer.new.pass) (view c.try_again-again.new.pass) c.args.op c.args.place c.install-answer.ensures.adds c.try_again-again.result c.try_again-again.ensures.differs
+
+pub returns-in-Some-clause-met : goal.returns-in-Some-clause-met
+returns-in-Some-clause-met g c = met_longer (view c.args.pass.now) (view c.install-answer.new.pass) (view c.try_again-again.new.pass) c.args.op c.args.place c.install-answer.ensures.adds c.try_again-again.result c.try_again-again.ensures.met
+
+pub returns-in-Some-clause-completed : goal.returns-in-Some-clause-completed
+returns-in-Some-clause-completed g c = let e = c.try_again-again.ensures in
+    completed_since (view c.args.pass.now) (view c.install-answer.new.pass) (view c.try_again-again.new.pass) c.args.op c.args.place c.install-answer.result c.in-Some.first
+    c.in-Some.ensures.met.0 c.in-Some.ensures.met.1 c.install-answer.ensures.met e.adds e.pass.0.2 e.gone
+
+pub returns-in-None-clause-differs : goal.returns-in-None-clause-differs
+returns-in-None-clause-differs g c = different_since (view c.args.pass.now) (view c.args.pass.now) (view c.install-answer.new.pass) c.args.op c.args.place ([], refl) c.install-answer.result c.install-answer.ensures.differs
+
+pub returns-in-None-clause-met : goal.returns-in-None-clause-met
+returns-in-None-clause-met g c = met_since (view c.args.pass.now) (view c.args.pass.now) (view c.install-answer.new.pass) c.args.op c.args.place ([], refl) c.install-answer.result c.install-answer.ensures.met
+
+pub returns-in-None-clause-numbers : goal.returns-in-None-clause-numbers
+returns-in-None-clause-numbers g c = last_since (view c.args.pass.now) (view c.args.pass.now) (view c.install-answer.new.pass) c.args.op c.args.place ([], refl) c.install-answer.result c.install-answer.ensures.numbers

@@ -1,0 +1,157 @@
+//! How an exchange comes to be decided: a stamp is drawn for it, and then its status is exchanged. Its own pass and whoever helps
+//! it do so by the same steps. The answer is the status that stands then: of whoever came first.
+ghost use Rattle.std.specs.Prelude.{◌≡◌, ◌<◌, ◌≤◌, ◌^◌, true, false};
+ghost use Rattle.pc_rule_law.specs.Past.{Has};
+ghost use Rattle.pc_rule_law.specs.Stages.{IsOpen};
+ghost use Rattle.pc_rule_law.specs.Views.{IsAttempt};
+ghost use Rattle.pc_words.specs.Statuses.{StageInRange};
+ghost use Rattle.pc_protocol.specs.Notes.{clock_was, drew};
+ghost use Rattle.pc_exchange_law.specs.Ties.{code, last_stamp};
+ghost use Rattle.pc_rule.specs.declared.refs.RefKind.TheVariants.{Exchange};
+ghost use Rattle.pc_rule.specs.Passes.{whole, view, knows, aim, board_size, IsPassOf, IsSamePass};
+ghost use Rattle.pc_kcas.specs.Settling.{HasLearnt, KnowsOf, StandsAt, IsSettled, HoldsEach, KnowsNoVisits, MaySettle, OwnsPublished, IfStamp, IfRefused, IfPast};
+
+use crate::drawn::Drawn;
+use pc_model::Shape;
+use pc_rule::{Board, Pass, Ref, step_7, step_9, step_13, step_14, step_14_own};
+use pc_words::{Stage, Status, pack, unpack};
+
+// The last stamp.
+const LAST_STAMP: u64 = 17_179_869_183;
+
+// Whether this is the stage of an undecided attempt.
+fn is_open(stage: Stage) -> bool
+    ensures yes { result ≡ true → IsOpen stage }
+    ensures no { result ≡ false → IsOpen stage → ⊥ }
+{
+    match stage {
+        Stage::Undecided => true,
+        Stage::Idle => false,
+        Stage::Succeeded { .. } => false,
+        Stage::Withdrawn => false,
+        Stage::Changed { .. } => false,
+        Stage::Locked { .. } => false,
+    }
+}
+
+/// Loads the status of the exchange's pass, at which the pass then aims.
+pub(crate) fn load_status<H: Shape>(board: &Board<H>, pass: &mut Pass<H>, op: Ref) -> Status
+    requires pass { IsPassOf board.now pass.old }
+    requires attempt { IsAttempt (board_size board.now) op.seat op.number }
+    requires known { KnowsOf (view pass.old) op.seat op.number }
+    ensures pass { IsSamePass pass.old pass.new }
+    ensures learnt { HasLearnt (whole pass.old) (whole pass.new) }
+    ensures ready { (knows pass.new).ready ≡ (knows pass.old).ready }
+    ensures aim { aim pass.new ≡ (op.seat, result.number) }
+    ensures stands { StandsAt (whole pass.new) op.seat op.number result }
+{
+    unpack(step_7(board, pass, op.seat + 1))
+}
+
+/// Draws a stamp for an exchange each of whose words holds its reference. Nothing is drawn where the exchange isn't undecided, or
+/// where the clock has come to its last stamp.
+pub(crate) fn draw<H: Shape>(board: &Board<H>, pass: &mut Pass<H>, op: Ref) -> Drawn
+    requires pass { IsPassOf board.now pass.old }
+    requires exchange { op.kind ≡ Exchange }
+    requires attempt { IsAttempt (board_size board.now) op.seat op.number }
+    requires held { HoldsEach (whole pass.old) op.seat op.number }
+    ensures pass { IsSamePass pass.old pass.new }
+    ensures learnt { HasLearnt (whole pass.old) (whole pass.new) }
+    ensures stamp { IfStamp result (λ s. (s < last_stamp) × Has (knows pass.new).told (drew (code op.seat op.number) s)) }
+    ensures refused { IfRefused result (λ c. (last_stamp ≤ c) × Has (knows pass.new).told (clock_was c)) }
+    ensures past { IfPast result (IsSettled (whole pass.new) op.seat op.number) }
+{
+    let clock = step_9(board, pass);
+    if clock >= LAST_STAMP {
+        return Drawn::Refused(clock);
+    }
+    let status = load_status(board, pass, op);
+    if status.number != op.number {
+        return Drawn::Past(status);
+    }
+    if !is_open(status.stage) {
+        return Drawn::Past(status);
+    }
+    let stamp = step_13(board, pass, op);
+    if stamp >= LAST_STAMP {
+        return Drawn::Refused(stamp);
+    }
+    Drawn::Stamp(stamp)
+}
+
+/// Decides an exchange: that it took effect at a stamp that was drawn for it, that a node changed, or that it was withdrawn since
+/// the clock has come to its last stamp. Where another decided it first, that stands.
+pub(crate) fn decide<H: Shape>(
+    board: &Board<H>,
+    pass: &mut Pass<H>,
+    op: Ref,
+    stage: Stage,
+) -> Status
+    requires pass { IsPassOf board.now pass.old }
+    requires attempt { IsAttempt (board_size board.now) op.seat op.number }
+    requires known { KnowsOf (view pass.old) op.seat op.number }
+    requires range { StageInRange stage }
+    requires may { MaySettle (whole pass.old) op.seat op.number stage }
+    ensures pass { IsSamePass pass.old pass.new }
+    ensures learnt { HasLearnt (whole pass.old) (whole pass.new) }
+    ensures settled { IsSettled (whole pass.new) op.seat op.number result }
+{
+    let old = pack(Status {
+        number: op.number,
+        stage: Stage::Undecided,
+    });
+    let decided = Status {
+        number: op.number,
+        stage,
+    };
+    let new = pack(decided);
+    let found = step_14(board, pass, op.seat + 1, old, new);
+    if found == old {
+        return decided;
+    }
+    unpack(found)
+}
+
+/// The pass withdraws its own attempt. Where another decided it first, that stands.
+pub(crate) fn withdraw<H: Shape>(board: &Board<H>, pass: &mut Pass<H>) -> Status
+    requires pass { IsPassOf board.now pass.old }
+    requires published { OwnsPublished (view pass.old) }
+    ensures pass { IsSamePass pass.old pass.new }
+    ensures learnt { HasLearnt (whole pass.old) (whole pass.new) }
+    ensures settled { IsSettled (whole pass.new) (view pass.old).seat (view pass.old).attempt.number result }
+{
+    let number = pass.attempts();
+    let old = pack(Status {
+        number,
+        stage: Stage::Undecided,
+    });
+    let withdrawn = Status {
+        number,
+        stage: Stage::Withdrawn,
+    };
+    let new = pack(withdrawn);
+    let found = step_14_own(board, pass, old, new);
+    if found == old {
+        return withdrawn;
+    }
+    unpack(found)
+}
+
+/// Decides an exchange each of whose words holds its reference: it takes effect at a stamp that is drawn for it, or is withdrawn
+/// where the clock has come to its last stamp. Where another decided it first, that stands.
+pub(crate) fn decide_held<H: Shape>(board: &Board<H>, pass: &mut Pass<H>, op: Ref) -> Status
+    requires pass { IsPassOf board.now pass.old }
+    requires exchange { op.kind ≡ Exchange }
+    requires attempt { IsAttempt (board_size board.now) op.seat op.number }
+    requires held { HoldsEach (whole pass.old) op.seat op.number }
+    requires visits { KnowsNoVisits (whole pass.old) op.seat op.number }
+    ensures pass { IsSamePass pass.old pass.new }
+    ensures learnt { HasLearnt (whole pass.old) (whole pass.new) }
+    ensures settled { IsSettled (whole pass.new) op.seat op.number result }
+{
+    match draw(board, pass, op) {
+        Drawn::Stamp(stamp) => decide(board, pass, op, Stage::Succeeded { stamp }),
+        Drawn::Refused(_) => decide(board, pass, op, Stage::Withdrawn),
+        Drawn::Past(status) => status,
+    }
+}

@@ -1,0 +1,47 @@
+-- The step's lemma, at the address of the word.
+use Rattle.std.proofs.Common.{◌-◌, refl, ap, ◌∙◌, ⊎_elim, arith}
+use Rattle.pc_words.specs.Statuses.{unpacked}
+use Rattle.pc_rule_law.specs.Board.{Size, Place, at_own, own_status, Inside}
+use Rattle.pc_rule_law.specs.Views.{View, OwnAttempt}
+use Rattle.pc_rule_law.specs.Tables.{size_of}
+use Rattle.pc_rule_law.proofs.Places.{within}
+use Rattle.pc_exchange_law.specs.WholePlays.{HasDecided}
+use Rattle.pc_exchange_law.specs.Wholes.{Whole}
+use Rattle.pc_exchange_law.proofs.WholeDecisions.{whole_succeed, whole_fail}
+use Rattle.pc_rule.proofs.Attempts.{KeepsOwn, decided_keeps, tried_keeps}
+use Rattle.pc_rule.proofs.Listing.{still_listed}
+use Rattle.pc_rule.proofs.Telling.{told_at}
+use Rattle.pc_rule.proofs.decisions.step_14.Goals as goal
+
+pub compare_exchange-requires : goal.compare_exchange-requires
+compare_exchange-requires g c = let x : Whole = c.args.pass.now.seat.me.0 in let v : View = x.view in let z : Size = size_of c.args.board.now.table.shared.key in let p : Place = at_own (c.args.of - 1) own_status in let inside : Inside z p = ((let of = c.requires.of in omega arith), tt) in (
+  c.requires.pass.0,
+  rw (c.own_word-word.ensures, c.args.board.now.wide.0) (within z p inside),
+  ⊎_elim
+      (λ s. rw (c.own_word-word.ensures, c.requires.may.1, s.1) (whole_succeed g.H.Shape.form z _ _ c.args.pass.now.seat.me (c.args.of - 1) c.requires.may.0 s.0 c.requires.pass.1 c.args.pass.now.live c.requires.may.2 s.2))
+      (λ f. rw (c.own_word-word.ensures, c.requires.may.1, f.1) (whole_fail g.H.Shape.form z _ _ c.args.pass.now.seat.me (c.args.of - 1) c.requires.may.0 f.0 c.requires.pass.1 c.args.pass.now.live c.requires.may.2 f.2 f.3))
+      c.requires.may.3,
+)
+
+pub invariant_of-pass : goal.invariant_of-pass
+invariant_of-pass g c = let x : Whole = c.args.pass.now.seat.me.0 in let v : View = x.view in let z : Size = size_of c.args.board.now.table.shared.key in let p : Place = at_own (c.args.of - 1) own_status in let inside : Inside z p = ((let of = c.requires.of in omega arith), tt) in
+    let t = c.compare_exchange.ensures.2 in let y : Whole = c.compare_exchange.new.seat.me.0 in
+    let told = told_at v z c.own_word-word.result (HasDecided x c.args.old c.args.new c.compare_exchange.result c.compare_exchange.new.seat.me.0) p c.requires.pass.1 c.compare_exchange.ensures.2.2 inside c.own_word-word.ensures in
+    let keeps : KeepsOwn x y = tried_keeps x (c.args.of - 1) c.args.old c.compare_exchange.result _ y told (λ e. decided_keeps x y (c.args.of - 1) (unpacked c.args.old).number _ e refl refl refl) in
+    record {
+      live = t.1.0 ∙ c.args.pass.now.live;
+      numbered = t.1.1 ∙ c.args.pass.now.numbered;
+      counted = keeps.install ∙ c.args.pass.now.counted;
+      tried = ap (λ (u : OwnAttempt). u.number) keeps.attempt ∙ c.args.pass.now.tried;
+      pending = ap (λ (u : OwnAttempt). u.published) keeps.attempt ∙ c.args.pass.now.pending;
+      holds_none = t.0 ∙ c.args.pass.now.holds_none;
+      one_attempt = keeps.agree c.args.pass.now.one_attempt;
+      few = c.args.pass.now.few;
+      roomy = c.args.pass.now.roomy;
+      ample = c.args.pass.now.ample;
+      listing = still_listed v y.view c.args.pass.now.listed.items t.1 c.args.pass.now.listing;
+    }
+
+pub returns-clause-told : goal.returns-clause-told
+returns-clause-told g c = let x : Whole = c.args.pass.now.seat.me.0 in let v : View = x.view in let z : Size = size_of c.args.board.now.table.shared.key in let p : Place = at_own (c.args.of - 1) own_status in let inside : Inside z p = ((let of = c.requires.of in omega arith), tt) in let y : Whole = c.compare_exchange.new.seat.me.0 in
+    let told = told_at v z c.own_word-word.result (HasDecided x c.args.old c.args.new c.compare_exchange.result c.compare_exchange.new.seat.me.0) p c.requires.pass.1 c.compare_exchange.ensures.2.2 inside c.own_word-word.ensures in told
