@@ -8,7 +8,7 @@ use Rattle.pc_model.specs.Exchanges.{with_fresh}
 use Rattle.pc_model.proofs.Counting.{count-here, count-append}
 use Rattle.pc_plan.specs.declared.change.Fresh.{Fresh}
 use Rattle.pc_plan.specs.Runs.{fresh_fields, fresh_at}
-use Rattle.pc_plain.specs.PlainCells.{cells_in, AreBelowLimits, kept, kept_cells}
+use Rattle.pc_plain.specs.PlainCells.{SplitWords, cells_in, AreBelowLimits, kept, kept_cells}
 use Rattle.pc_plain.specs.PlainWriting.{TakesSlot}
 use Rattle.pc_plain.proofs.KeptCells.{kept_node, kept_same}
 
@@ -22,13 +22,13 @@ last_counted free rest slot e =
     omega arith
 
 -- a node written at the stack's last slot takes that slot
-pub takes_slot : (wanted : Option Fresh) (fresh : Fresh) (old_words new_words old_free new_free : List ℕ)
+pub takes_slot : (wanted : Option Fresh) (fresh : Fresh) (old_words new_words : SplitWords) (old_free new_free : List ℕ)
     (slot version : ℕ) → wanted ≡ Some fresh
     → old_free ≡ new_free ++ slot ∷ [] → version ≡ cells_in old_words slot Version
     → AreBelowLimits (cells_in old_words)
     → cells_in new_words ≡ with_fresh
     (Some (record { node = slot; fields = λ f. kept f (fresh_fields version fresh f) })) (cells_in old_words)
-    → length new_words ≡ length old_words → slot < 4294967296 → fresh.parent < 4294967296
+    → length new_words.near ≡ length old_words.near → slot < 4294967296 → fresh.parent < 4294967296
     → TakesSlot wanted old_words new_words old_free new_free slot
 takes_slot wanted fresh old_words new_words old_free new_free slot version e taken v below cells long small parent =
     let c : Cells = cells_in old_words in

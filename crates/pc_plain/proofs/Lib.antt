@@ -10,3 +10,4 @@ pub mod QuietPlans
 pub mod RunRight
 pub mod ShapeBuilding
 pub mod ShapeListing
+pub mod SplitWriting

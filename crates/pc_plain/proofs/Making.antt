@@ -14,7 +14,7 @@ use Rattle.pc_plan.specs.declared.change.Fresh.{Fresh}
 use Rattle.pc_plan.specs.Planned.{Planned}
 use Rattle.pc_plan.specs.SlotsAfter.{is_node, taken_by, parity_after}
 use Rattle.pc_plan.specs.Runs.{Takes, fresh_at, fresh_fields}
-use Rattle.pc_plain.specs.PlainCells.{PlainWords, cells_in, cells_of, AreBelowLimits, is_free, IsSoundPlain, kept}
+use Rattle.pc_plain.specs.PlainCells.{PlainWords, SplitWords, cells_in, cells_of, AreBelowLimits, is_free, IsSoundPlain, kept}
 use Rattle.pc_plain.specs.PlainCells.{kept_cells}
 use Rattle.pc_plain.specs.PlainWriting.{with_adds, AddsReach, TakesSlot, changed_cells, AreWordsOf, FreshFits}
 use Rattle.pc_plain.specs.PlainWriting.{IsFitting, CanMake, IsWritten}
@@ -43,7 +43,7 @@ free_slot slots c n e = let parts : (is_numbered slots n ≡ true) × ((c n Vers
     (numbered_slot slots n parts.0, eqb-true (c n Version % 2) 1 parts.1)
 
 -- the last of the stack is a slot out of use
-allowed_at : (slots : ℕ) (words free rest : List ℕ) (capacity : ℕ) (fresh : Option Fresh) (slot : ℕ)
+allowed_at : (slots : ℕ) (words : SplitWords) (free rest : List ℕ) (capacity : ℕ) (fresh : Option Fresh) (slot : ℕ)
     → IsSoundPlain slots words free capacity
     → free ≡ rest ++ option_to_list (taken_by fresh slot)
     → IfSome fresh (λ _. IsSlot slots slot × IsOdd (cells_in words slot Version))
@@ -77,7 +77,7 @@ count_after k x false true h even = let few : one_if (x == 1) ≤ 1 = at_most (x
 count_after k x false false h even = h
 
 -- how often a number stands in the stack after a slot is taken and another is given
-counts_after : (slots : ℕ) (words words' free rest : List ℕ) (capacity : ℕ) (taken mark : Option ℕ)
+counts_after : (slots : ℕ) (words words' : SplitWords) (free rest : List ℕ) (capacity : ℕ) (taken mark : Option ℕ)
     → IsSoundPlain slots words free capacity
     → free ≡ rest ++ option_to_list taken → IfSome mark (λ m. IsSlot slots m × IsEven (cells_in words m Version))
     → ((n : ℕ) → IsSlot slots n
@@ -131,7 +131,7 @@ stack_short slots c free once =
     at_most true = omega arith
     at_most false = omega arith
 
-reach_adds : (slots len : ℕ) (adds : List Add) → 8 * (slots + 2) ≤ len → AreWordsOf slots adds → AddsReach len adds
+reach_adds : (slots len : ℕ) (adds : List Add) → 4 * (slots + 2) ≤ len → AreWordsOf slots adds → AddsReach len adds
 reach_adds slots len [] long words = tt
 reach_adds slots len (a ∷ adds) long words = (
   let node : IsNode slots a.node = words.0.0 in let top : a.node ≤ slots + 1 = node.1 in
@@ -139,7 +139,7 @@ reach_adds slots len (a ∷ adds) long words = (
   reach_adds slots len adds long words.1,
 )
 
-below_fresh : (slots : ℕ) (words words' free free' : List ℕ) (fresh : Option Fresh) (slot : ℕ)
+below_fresh : (slots : ℕ) (words words' : SplitWords) (free free' : List ℕ) (fresh : Option Fresh) (slot : ℕ)
     → AreBelowLimits (cells_in words) → TakesSlot fresh words words' free free' slot
     → IfSome fresh FreshFits → AreBelowLimits (cells_in words')
 below_fresh slots words words' free free' None slot below takes fits =
@@ -157,19 +157,19 @@ below_fresh slots words words' free free' (Some f) slot below takes fits =
 
 module _ (w : PlainWords) (free : List ℕ) (capacity : ℕ) (p : Planned)
     (sound : IsSoundPlain w.slots w.words free capacity) (can : CanMake w p)
-    (words rest : List ℕ) (slot : ℕ) (takes : TakesSlot p.fresh w.words words free rest slot) where
+    (words : SplitWords) (rest : List ℕ) (slot : ℕ) (takes : TakesSlot p.fresh w.words words free rest slot) where
   pub made_allowed : Takes w.slots (cells_of w) p slot
   made_allowed = allowed_at w.slots w.words free rest capacity p.fresh slot sound takes.taken
 
   made_fitting : IsFitting w.slots (cells_of w) p slot
   made_fitting = can slot made_allowed
 
-  pub made_reach : AddsReach (length words) p.adds
-  made_reach = let e : length words ≡ length w.words = takes.long in let f : length w.words ≡ 8 * (w.slots + 2)
-      = sound.long in
-      reach_adds w.slots (length words) p.adds (omega arith) made_fitting.words
+  pub made_reach : AddsReach (length words.near) p.adds
+  made_reach = let e : length words.near ≡ length w.words.near = takes.long in
+      let f : length w.words.near ≡ 4 * (w.slots + 2) = sound.long in
+      reach_adds w.slots (length words.near) p.adds (omega arith) made_fitting.words
 
-  module _ (words' : List ℕ) (cells : cells_in words' ≡ with_adds slot p.adds (cells_in words)) where
+  module _ (words' : SplitWords) (cells : cells_in words' ≡ with_adds slot p.adds (cells_in words)) where
     pub made_cells : cells_in words' ≡ kept_cells (changed_cells p slot (cells_of w))
     made_cells = cells ∙ ap (λ (d : Cells). with_adds slot p.adds d) takes.cells
         ∙ kept_adds slot p.adds (with_fresh (fresh_at slot (cells_in w.words slot Version) p.fresh) (cells_in w.words))
@@ -204,7 +204,7 @@ module _ (w : PlainWords) (free : List ℕ) (capacity : ℕ) (p : Planned)
         one_of (Some m) h = refl
 
     pub made_sound : (free' : List ℕ) (capacity' : ℕ) → free' ≡ rest ++ option_to_list p.mark → capacity' ≡ capacity
-        → length words' ≡ length words → IsSoundPlain w.slots words' free' capacity'
+        → length words'.near ≡ length words.near → IsSoundPlain w.slots words' free' capacity'
     made_sound free' capacity' e f long = record {
       few = sound.few;
       long = long ∙ takes.long ∙ sound.long;

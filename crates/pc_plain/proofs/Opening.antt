@@ -7,11 +7,11 @@ use Rattle.std.proofs.lemmas.Bool.{and_left}
 use Rattle.std.proofs.lemmas.Bool.Decides.{nat_tests}
 use Rattle.pc_model.specs.declared.cell.Field.{Field}
 use Rattle.pc_model.specs.declared.cell.Field.TheVariants.{Version, Key, Value, Left, Right, Parent, Height, Spare}
-use Rattle.pc_model.specs.Cells.{Cells, field_number, written, opening_fields}
+use Rattle.pc_model.specs.Cells.{Cells, written, opening_fields}
 use Rattle.pc_model.specs.Counts.{count, one_if}
 use Rattle.pc_model.specs.Trees.{Empty, Kind, IsSearchTree}
 use Rattle.pc_model.proofs.Counting.{count-append}
-use Rattle.pc_plain.specs.PlainCells.{cells_in, limit, AreBelowLimits, is_free, IsSoundPlain}
+use Rattle.pc_plain.specs.PlainCells.{SplitWords, cells_in, limit, AreBelowLimits, is_free, IsSoundPlain}
 use Rattle.pc_plain.specs.PlainWriting.{OpensCells, HasEachSlot}
 
 -- whether a slot is among the greatest slots, so many of them
@@ -54,6 +54,19 @@ unused_below k n Right = 0
 unused_below k n Parent = 0
 unused_below k n Height = 0
 unused_below k n Spare = 0
+
+unused_none_at : (n : ℕ) (f : Field) → 0 ≡ unused_below 0 n f
+unused_none_at n Version = grind (arith, nat_tests)
+unused_none_at n Key = refl
+unused_none_at n Value = refl
+unused_none_at n Left = refl
+unused_none_at n Right = refl
+unused_none_at n Parent = refl
+unused_none_at n Height = refl
+unused_none_at n Spare = refl
+
+pub unused_none : (λ (n : ℕ) (f : Field). 0) ≡ unused_below 0
+unused_none = λ i n f. unused_none_at n f i
 
 unused_more_at : (k n : ℕ) (f : Field) → written k Version 1 (unused_below k) n f ≡ unused_below (k + 1) n f
 unused_more_at k n Version = grind (arith, nat_tests)
@@ -102,13 +115,24 @@ zero_small Parent = omega arith
 zero_small Height = omega arith
 zero_small Spare = omega arith
 
-module _ (slots : ℕ) (words : List ℕ) (long : length words ≡ 8 * (slots + 2))
-    (opens : OpensCells slots (cells_in words)) where
+-- past the last node there is no word
+past_words : (slots : ℕ) (words : SplitWords) (n : ℕ) (f : Field) → length words.near ≡ 4 * (slots + 2)
+    → length words.near ≡ length words.far → slots + 2 ≤ n → cells_in words n f ≡ 0
+past_words slots words n Version long even h = get_or_past words.near (4 * n + 0) 0 (omega arith)
+past_words slots words n Key long even h = get_or_past words.near (4 * n + 1) 0 (omega arith)
+past_words slots words n Left long even h = get_or_past words.near (4 * n + 2) 0 (omega arith)
+past_words slots words n Right long even h = get_or_past words.near (4 * n + 3) 0 (omega arith)
+past_words slots words n Value long even h = get_or_past words.far (4 * n + 0) 0 (omega arith)
+past_words slots words n Parent long even h = get_or_past words.far (4 * n + 1) 0 (omega arith)
+past_words slots words n Height long even h = get_or_past words.far (4 * n + 2) 0 (omega arith)
+past_words slots words n Spare long even h = get_or_past words.far (4 * n + 3) 0 (omega arith)
+
+module _ (slots : ℕ) (words : SplitWords) (long : length words.near ≡ 4 * (slots + 2))
+    (even : length words.near ≡ length words.far) (opens : OpensCells slots (cells_in words)) where
   opening_below : AreBelowLimits (cells_in words)
   opening_below n f = ⊎_elim
       (λ h. let e : cells_in words n f ≡ opening_fields n f = opens n f (omega arith) in rw e (opening_small n f))
-      (λ h. let e : cells_in words n f ≡ 0 = get_or_past words (8 * n + field_number f) 0 (omega arith) in
-      rw e (zero_small f))
+      (λ h. let e : cells_in words n f ≡ 0 = past_words slots words n f long even h in rw e (zero_small f))
       (cases_lt n (slots + 2))
 
   opening_once : (free : List ℕ) → HasEachSlot slots free → (n : ℕ)

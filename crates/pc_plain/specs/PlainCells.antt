@@ -1,23 +1,50 @@
--- Plain cells: the words of all nodes in one list, eight a node, and which slots are out of use.
-use Rattle.std.specs.Prelude.{◌≡◌, ℕ, ◌+◌, ◌*◌, ◌%◌, ◌<◌, ◌≤◌, ◌==◌, nat_lt, nat_le, ◌&&◌, if◌then◌else◌, Bool}
+-- Plain cells: the words of all nodes in two lists, four a node in each, and which slots are out of use.
+use Rattle.std.specs.Prelude.{◌≡◌, ℕ, ◌+◌, ◌*◌, ◌%◌, ◌<◌, ◌≤◌, ◌==◌, nat_lt, nat_le, ◌&&◌, if◌then◌else◌, Bool, true, false}
 use Rattle.std.specs.Prelude.{List, [], length, slice_index}
 use Rattle.pc_model.specs.declared.cell.Field.{Field}
 use Rattle.pc_model.specs.declared.cell.Field.TheVariants.{Version, Key, Value, Left, Right, Parent, Height, Spare}
-use Rattle.pc_model.specs.Cells.{Cells, IsNode, opening_fields, field_number}
+use Rattle.pc_model.specs.Cells.{Cells, IsNode, opening_fields}
 use Rattle.pc_model.specs.Counts.{count, one_if}
 use Rattle.pc_model.specs.Trees.{Kind, IsSearchTree}
 
--- how many slots there are, and the words of all nodes from node 0 on
+-- the words of all nodes from node 0 on, four a node in each list: those that a walk reads, and the others
+pub record SplitWords : Type 0 where
+  pub near : List ℕ
+  pub far : List ℕ
+
+-- how many slots there are, and the words of all nodes
 pub record PlainWords : Type 0 where
   pub slots : ℕ
-  pub words : List ℕ
+  pub words : SplitWords
 
--- the cells that a list of words has
-abbrev pub cells_in : List ℕ → Cells
-cells_in words n f = slice_index words (8 * n + field_number f)
+-- a walk reads the field
+abbrev pub is_near : Field → Bool
+is_near Version = true
+is_near Key = true
+is_near Left = true
+is_near Right = true
+is_near Value = false
+is_near Parent = false
+is_near Height = false
+is_near Spare = false
+
+-- the place of a field's word among the four of its node
+abbrev pub place_of : Field → ℕ
+place_of Version = 0
+place_of Key = 1
+place_of Left = 2
+place_of Right = 3
+place_of Value = 0
+place_of Parent = 1
+place_of Height = 2
+place_of Spare = 3
+
+-- the cells that words are
+abbrev pub cells_in : SplitWords → Cells
+cells_in w n f = slice_index (if is_near f then w.near else w.far) (4 * n + place_of f)
 
 abbrev pub cells_of : PlainWords → Cells
-cells_of p n f = slice_index p.words (8 * n + field_number f)
+cells_of p = cells_in p.words
 
 -- what a number in a field stays below
 abbrev pub limit : Field → ℕ
@@ -38,9 +65,9 @@ abbrev pub is_free : ℕ → Cells → ℕ → Bool
 is_free slots c n = (nat_le 2 n && nat_le n (slots + 1)) && ((c n Version % 2) == 1)
 
 -- the words fit, and the stack has each slot that is out of use once, and nothing else
-pub record IsSoundPlain (slots : ℕ) (words free : List ℕ) (capacity : ℕ) : Type 0 where
+pub record IsSoundPlain (slots : ℕ) (words : SplitWords) (free : List ℕ) (capacity : ℕ) : Type 0 where
   pub few : slots ≤ 61000
-  pub long : length words ≡ 8 * (slots + 2)
+  pub long : length words.near ≡ 4 * (slots + 2)
   pub fit : AreBelowLimits (cells_in words)
   pub free_once : (n : ℕ) → count n free ≡ one_if (is_free slots (cells_in words) n)
   pub room : slots ≤ capacity

@@ -12,32 +12,32 @@ use Rattle.pc_plan.specs.Planned.{Planned}
 use Rattle.pc_plan.specs.SlotsAfter.{taken_by, parity_after}
 use Rattle.pc_plan.specs.Runs.{number_at, fresh_at, exchange_of, Takes}
 use Rattle.pc_plan.specs.Lawful.{FitsWord}
-use Rattle.pc_plain.specs.PlainCells.{PlainWords, cells_in, cells_of, AreBelowLimits, kept, kept_cells}
+use Rattle.pc_plain.specs.PlainCells.{PlainWords, SplitWords, cells_in, cells_of, AreBelowLimits, kept, kept_cells}
 
 -- the cells with these words' new numbers, one after another
 abbrev pub with_adds : ℕ → List Add → Cells → Cells
 with_adds slot [] c = c
 with_adds slot (a ∷ adds) c = with_adds slot adds (written a.node a.field (kept a.field (number_at slot a.new)) c)
 
--- a node's words stand in a list of this length
+-- a node's words stand in two lists of this length
 abbrev pub ReachWords : ℕ → ℕ → Type 0
-ReachWords n len = 8 * n + 8 ≤ len
+ReachWords n len = 4 * n + 4 ≤ len
 
 abbrev pub AddsReach : ℕ → List Add → Type 0
 AddsReach len [] = Unit {0}
 AddsReach len (a ∷ adds) = ReachWords a.node len × AddsReach len adds
 
 -- the words fit, and each slot of the stack has its words
-pub record CanTakeSlot (words free : List ℕ) : Type 0 where
+pub record CanTakeSlot (words : SplitWords) (free : List ℕ) : Type 0 where
   pub fit : AreBelowLimits (cells_in words)
-  pub within : (n : ℕ) → 0 < count n free → ReachWords n (length words)
+  pub within : (n : ℕ) → 0 < count n free → ReachWords n (length words.near)
 
 -- the slot was the stack's last where there is a fresh node, and the node is written there
-pub record TakesSlot (fresh : Option Fresh) (old_words new_words old_free new_free : List ℕ) (slot : ℕ) : Type 0 where
+pub record TakesSlot (fresh : Option Fresh) (old_words new_words : SplitWords) (old_free new_free : List ℕ) (slot : ℕ) : Type 0 where
   pub taken : old_free ≡ new_free ++ option_to_list (taken_by fresh slot)
   pub cells : cells_in new_words ≡ kept_cells
       (with_fresh (fresh_at slot (cells_in old_words slot VersionField) fresh) (cells_in old_words))
-  pub long : length new_words ≡ length old_words
+  pub long : length new_words.near ≡ length old_words.near
   pub small : slot < 4294967296
   pub parent : IfSome fresh (λ f. f.parent < 4294967296)
 

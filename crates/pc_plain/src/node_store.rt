@@ -1,7 +1,9 @@
 //! The words of all nodes of one tree, with a stack of the slots that are out of use.
 ghost use Rattle.std.specs.Prelude.{◌≡◌, ◌+◌, ◌≤◌, IfOk, IfErr, OnErr, OnOk, IsSome};
 
-use crate::node_words::{all_slots, give_slot, opening_words, take_slot, word, write_adds};
+use crate::node_words::{
+    NodeWords, all_slots, give_slot, opening_words, take_slot, word, write_adds,
+};
 use pc_model::{Field, Memory, Reply};
 use pc_plan::{Change, StillCells};
 use std::alloc::Global;
@@ -12,7 +14,7 @@ use thiserror::Error;
 #[derive(Debug, Drop)]
 pub struct NodeStore {
     slots: u32,
-    words: Vec<u64>,
+    words: NodeWords,
     free: Vec<u32>,
 }
 
@@ -22,9 +24,9 @@ impl Model for NodeStore {
 
     ghost Value = { PlainWords };
 
-    ghost view = { λ s. record { slots = s.slots; words = s.words.items } };
+    ghost view = { λ s. record { slots = s.slots; words = s.words } };
 
-    ghost invariant = { λ s. IsSoundPlain s.slots s.words.items s.free.items (vec_capacity s.free) };
+    ghost invariant = { λ s. IsSoundPlain s.slots s.words s.free.items (vec_capacity s.free) };
 }
 
 /// An exchange wanted a slot for a fresh node, and every slot is in use.

@@ -10,7 +10,9 @@ use crate::run::end_of;
 use pc_model::{Owed, Reply, Settle};
 use pc_plan::{End, Plan};
 
-/// Settles what a call settles, and then enters the charges that came with it.
+/// Settles what a call settles, and then enters the charges that came with it. It is no call of its own, so that no
+/// settlement is copied: the copy would wait until all that the exchange wrote has left the processor.
+#[inline(always)]
 fn take_up(owed: &mut Owed, settlement: Settle, charges: &[u64])
     ensures { owed.new ≡ taken_up settlement charges.now owed.old }
 {

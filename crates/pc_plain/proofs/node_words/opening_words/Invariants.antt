@@ -5,6 +5,6 @@ use Rattle.pc_plain.proofs.node_words.opening_words.Given as goal
 
 abbrev pub invariant-loop-node : goal.invariant-loop-node
 invariant-loop-node l = record {
-  long : length l.words.items ≡ 8 * (l.slots + 2);
-  cells : cells_in l.words.items ≡ unused_below l.node;
+  long : length l.words.near ≡ 4 * (l.slots + 2);
+  cells : cells_in l.words ≡ unused_below l.node;
 }

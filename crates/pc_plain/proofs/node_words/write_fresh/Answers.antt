@@ -16,4 +16,4 @@ returns-clause-cells c =
       c.from.ensures,
       c.kept_number.ensures,
     )
-    (node_written (cells_in c.args.words.now.items) c.args.slot c.args.version c.args.fresh)
+    (node_written (cells_in c.args.words.now) c.args.slot c.args.version c.args.fresh)
