@@ -5,3 +5,5 @@ pub mod Published
 pub mod Seated
 pub mod Slices
 pub mod Staying
+mod Opened
+mod Written

@@ -1,5 +1,5 @@
 -- Changes of the sentinel's version and value keep cells linked, so they fit the loosest shape.
-use Rattle.std.proofs.Common.{◌≡◌, ◌≢◌, ℕ, zero, suc, map, ◌==◌, if◌then◌else◌, List, [], ◌∷◌, refl, sym, ◌∙◌, subst, inl, inr, ⊎_elim, arith}
+use Rattle.std.proofs.Common.{◌≡◌, ◌≢◌, ℕ, zero, suc, ◌+◌, map, ◌==◌, if◌then◌else◌, List, [], ◌∷◌, refl, sym, ◌∙◌, subst, inl, inr, ⊎_elim, arith}
 use Rattle.std.specs.List.{All}
 use Rattle.std.proofs.lemmas.List.Sorted.{All-permutation}
 use Rattle.std.proofs.lemmas.Bool.Decides.{nat_tests}
@@ -14,6 +14,7 @@ use Rattle.pc_model.specs.Shapes.{loose_form}
 use Rattle.pc_rule.specs.declared.opening.Place.{Place}
 use Rattle.pc_rule.specs.Starting.{change_of}
 use Rattle.pc_kcas.specs.Exchanges.{FitsInEachOrder}
+use Rattle.board_trials.specs.Words.{IsOther}
 
 -- cells with the same links, and versions that are even where they were, are linked where the others are
 module _ (slots : ℕ) (c d : Cells) (links : (n : ℕ) (f : Field) → IsLinkField f → d n f ≡ c n f)
@@ -38,7 +39,7 @@ module _ (slots : ℕ) (c d : Cells) (links : (n : ℕ) (f : Field) → IsLinkFi
     };
   }
 
--- the sentinel's version, which is even then, or a value
+-- the sentinel's version, which is even then, or a value or a height
 abbrev pub IsLoose : ℕ → Field → ℕ → Type 0
 IsLoose n Version x = (n ≡ 1) × IsEven x
 IsLoose n Key x = ⊥
@@ -46,7 +47,7 @@ IsLoose n Value x = Unit {0}
 IsLoose n Left x = ⊥
 IsLoose n Right x = ⊥
 IsLoose n Parent x = ⊥
-IsLoose n Height x = ⊥
+IsLoose n Height x = Unit {0}
 IsLoose n Spare x = ⊥
 
 if_true : (m : ℕ) (x y : ℕ) → m ≡ 1 → (if m == 1 then x else y) ≡ x
@@ -75,6 +76,16 @@ same_links_of_value n x c m Parent is = refl
 same_links_of_value n x c m Height is = absurd is
 same_links_of_value n x c m Spare is = absurd is
 
+same_links_of_height : (n x : ℕ) (c : Cells) (m : ℕ) (g : Field) → IsLinkField g → written n Height x c m g ≡ c m g
+same_links_of_height n x c m Version is = absurd is
+same_links_of_height n x c m Key is = absurd is
+same_links_of_height n x c m Value is = absurd is
+same_links_of_height n x c m Left is = refl
+same_links_of_height n x c m Right is = refl
+same_links_of_height n x c m Parent is = refl
+same_links_of_height n x c m Height is = absurd is
+same_links_of_height n x c m Spare is = absurd is
+
 version_linked : (slots x : ℕ) (c : Cells) → IsEven x → IsLinked slots c → IsLinked slots (written 1 Version x c)
 unfolding linked_as same_links
 version_linked slots x c even l = linked_as slots c (written 1 Version x c) (same_links 1 x c)
@@ -91,7 +102,7 @@ one_linked slots n Value x c is l = linked_as slots c (written n Value x c) (sam
 one_linked slots n Left x c is l = absurd is
 one_linked slots n Right x c is l = absurd is
 one_linked slots n Parent x c is l = absurd is
-one_linked slots n Height x c is l = absurd is
+one_linked slots n Height x c is l = linked_as slots c (written n Height x c) (same_links_of_height n x c) (λ m e. e) (λ m e. e) l
 one_linked slots n Spare x c is l = absurd is
 
 abbrev pub IsLoosePlace : Place → Type 0
@@ -123,3 +134,16 @@ two_loose slots p q places is one two = subst (FitsInEachOrder loose_form slots)
     both zero d lt = one
     both (suc zero) d lt = two
     both (suc (suc k)) d lt = absurd (omega arith)
+
+pub even_next : (n : ℕ) → IsEven n → IsEven (n + 2)
+even_next n is = omega arith
+
+pub other_loose : (n x : ℕ) (f : Field) → IsOther f → IsLoose n f x
+other_loose n x Version is = absurd is
+other_loose n x Key is = absurd is
+other_loose n x Value is = tt
+other_loose n x Left is = absurd is
+other_loose n x Right is = absurd is
+other_loose n x Parent is = absurd is
+other_loose n x Height is = tt
+other_loose n x Spare is = absurd is

@@ -59,8 +59,8 @@ module _ (x : Whole) (places : List Place) (has : HasPublished x.view places) (a
       → MayDrawFor x.view x.knows x.view.seat x.view.attempt.number
   may_draw ready lt each = record {
     ready = ready;
+    met = let p = element_at places 0 lt in (p.0.node, p.0.field, each 0 p.0 p.1);
     places = places_at x.view.attempt.number refl;
-    some = lt;
     each = λ i below. let p = element_at places i below in each i p.0 p.1;
   }
 

@@ -20,7 +20,7 @@ use Rattle.pc_rule.specs.declared.refs.Ref.{Ref}
 use Rattle.pc_rule.specs.declared.refs.RefKind.TheVariants.{Install}
 use Rattle.pc_dcss.specs.declared.installed.Installed.{Installed}
 use Rattle.pc_dcss.specs.declared.installed.Installed.TheVariants.{Held, Decided, Differs, Met, Numbers as OutOfNumbers}
-use Rattle.pc_dcss.specs.Installs.{HasMet, IsMet, IfMet}
+use Rattle.pc_dcss.specs.Installs.{HasMet, IsMet, IfDiffers, IfMet}
 use Rattle.pc_dcss.proofs.Meeting.{met_install}
 use Rattle.pc_kcas.specs.Exchanges.{OnlyPublished}
 use Rattle.pc_kcas.proofs.Attempts.{free_published}
@@ -46,6 +46,14 @@ met_known v w op place Decided met = tt
 met_known v w op place (Differs x) met = tt
 met_known v w op place (Met r) met = λ kind. met_install v w op r place met kind
 met_known v w op place (OutOfNumbers n) met = tt
+
+-- what is known where a word differs may be another fact
+pub differs_so : (X Y : Type 0) (i : Installed) → (X → Y) → IfDiffers i (λ x. X) → IfDiffers i (λ x. Y)
+differs_so X Y Held more h = tt
+differs_so X Y Decided more h = tt
+differs_so X Y (Differs x) more h = more h
+differs_so X Y (Met r) more h = tt
+differs_so X Y (OutOfNumbers n) more h = tt
 
 -- a pass of a board that opened may list and publish
 pub may_list : {H : Type 0} {S : Ghosts H} (passes : List (Pass H S)) → NoneTried passes → (i : ℕ) (p : Pass H S) → get_elem? passes i ≡ some p

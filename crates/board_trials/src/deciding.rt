@@ -3,10 +3,10 @@
 ghost use Rattle.std.specs.Prelude.{◌≡◌, ◌<◌, ◌≤◌, [], true, false, length, vec_len};
 ghost use Rattle.pc_rule_law.specs.Conditions.{IsFree, CanWrite};
 ghost use Rattle.pc_exchange_law.specs.Ties.{last_stamp};
-ghost use Rattle.pc_rule.specs.Passes.{view, knows, aim, listed, IsPassOf, IsSeatedAs, IsSamePass};
+ghost use Rattle.pc_rule.specs.Passes.{view, knows, aim, listed, board_size, IsPassOf, IsSeatedAs, IsSamePass};
 ghost use Rattle.pc_rule.specs.Shares.{AreAll, NoneTried};
 ghost use Rattle.pc_dcss.specs.Installs.{KeepsNotes, KeepsAttempt};
-ghost use Rattle.pc_kcas.specs.Exchanges.{IsPublished};
+ghost use Rattle.pc_kcas.specs.Exchanges.{IsUncleared, IsPublished};
 ghost use Rattle.board_trials.specs.Deciding.{HoldsListed, IsDrawn, HasSucceeded, IsCleanAt};
 
 use crate::exchanges::{exchange_of, published, value, version};
@@ -24,11 +24,11 @@ const LAST_STAMP: u64 = 17_179_869_183;
 /// The pass aims at its own exchange and loads the clock. Says whether that is below the last stamp.
 fn aimed(board: &Board<Loose>, pass: &mut Pass<Loose>) -> bool
     requires pass { IsPassOf board.now pass.old }
-    requires published { IsPublished pass.old }
+    requires published { IsUncleared pass.old }
     requires held { HoldsListed pass.old }
     requires free { IsFree (view pass.old) }
     ensures same { IsSamePass pass.old pass.new }
-    ensures published { IsPublished pass.new }
+    ensures published { IsUncleared pass.new }
     ensures held { HoldsListed pass.new }
     ensures free { IsFree (view pass.new) }
     ensures aim { aim pass.new ≡ ((view pass.new).seat, (view pass.new).attempt.number) }
@@ -42,14 +42,14 @@ fn aimed(board: &Board<Loose>, pass: &mut Pass<Loose>) -> bool
 /// Draws a stamp for the own exchange.
 fn drawn(board: &Board<Loose>, pass: &mut Pass<Loose>) -> u64
     requires pass { IsPassOf board.now pass.old }
-    requires published { IsPublished pass.old }
+    requires published { IsUncleared pass.old }
     requires some { 0 < length (listed pass.old) }
     requires held { HoldsListed pass.old }
     requires free { IsFree (view pass.old) }
     requires aim { aim pass.old ≡ ((view pass.old).seat, (view pass.old).attempt.number) }
     requires ready { (knows pass.old).ready ≡ true }
     ensures same { IsSamePass pass.old pass.new }
-    ensures published { IsPublished pass.new }
+    ensures published { IsUncleared pass.new }
     ensures free { IsFree (view pass.new) }
     ensures drawn { result < last_stamp → IsDrawn pass.new result }
 {
@@ -60,12 +60,12 @@ fn drawn(board: &Board<Loose>, pass: &mut Pass<Loose>) -> u64
 /// The own exchange takes effect at this stamp. Says whether it was undecided until then.
 fn decided(board: &Board<Loose>, pass: &mut Pass<Loose>, stamp: u64) -> bool
     requires pass { IsPassOf board.now pass.old }
-    requires published { IsPublished pass.old }
+    requires published { IsUncleared pass.old }
     requires free { IsFree (view pass.old) }
     requires stamp { stamp < last_stamp }
     requires drawn { IsDrawn pass.old stamp }
     ensures same { IsSamePass pass.old pass.new }
-    ensures published { IsPublished pass.new }
+    ensures published { IsUncleared pass.new }
     ensures free { IsFree (view pass.new) }
     ensures succeeded { result ≡ true → HasSucceeded pass.new }
 {
@@ -85,7 +85,7 @@ fn decided(board: &Board<Loose>, pass: &mut Pass<Loose>, stamp: u64) -> bool
 /// The new number of the listed word at this index in place of the reference. Says whether that stood there.
 fn replaced(board: &Board<Loose>, pass: &mut Pass<Loose>, i: usize) -> bool
     requires pass { IsPassOf board.now pass.old }
-    requires published { IsPublished pass.old }
+    requires published { IsUncleared pass.old }
     requires index { i < length (listed pass.old) }
     requires free { IsFree (view pass.old) }
     requires succeeded { HasSucceeded pass.old }
@@ -105,7 +105,7 @@ fn replaced(board: &Board<Loose>, pass: &mut Pass<Loose>, i: usize) -> bool
 /// Puts all new numbers in place, and clears the own exchange. Says whether each word held the reference.
 fn cleared(board: &Board<Loose>, pass: &mut Pass<Loose>) -> bool
     requires pass { IsPassOf board.now pass.old }
-    requires published { IsPublished pass.old }
+    requires published { IsUncleared pass.old }
     requires free { IsFree (view pass.old) }
     requires succeeded { HasSucceeded pass.old }
     ensures same { IsSamePass pass.old pass.new }
@@ -128,7 +128,7 @@ fn cleared(board: &Board<Loose>, pass: &mut Pass<Loose>) -> bool
 }
 
 /// The pass installs the words of its published exchange, and decides and clears it.
-pub(crate) fn carried_out(board: &Board<Loose>, pass: &mut Pass<Loose>) -> Option<(bool, bool)>
+fn carried_out(board: &Board<Loose>, pass: &mut Pass<Loose>) -> Option<(bool, bool)>
     requires pass { IsPassOf board.now pass.old }
     requires published { IsPublished pass.old }
     requires free { IsFree (view pass.old) }
@@ -157,6 +157,7 @@ fn exchanged(board: &Board<Loose>, pass: &mut Pass<Loose>) -> Option<(bool, bool
     requires pass { IsPassOf board.now pass.old }
     requires open { CanWrite (view pass.old) × (listed pass.old ≡ []) }
     requires free { IsFree (view pass.old) }
+    requires start { (board_size board.now).starts.version ≡ 0 }
     ensures seated { IsSeatedAs pass.old pass.new }
     ensures free { IsFree (view pass.new) }
 {
@@ -171,6 +172,7 @@ fn exchanged_by(board: &Board<Loose>, passes: &mut Vec<Pass<Loose>>) -> Option<(
     requires all { AreAll board.now passes.old.items }
     requires some { 0 < vec_len passes.old }
     requires open { NoneTried passes.old.items }
+    requires start { (board_size board.now).starts.version ≡ 0 }
     ensures { AreAll board.now passes.new.items }
 {
     exchanged(board, &mut passes[0])

@@ -7,6 +7,8 @@ mod boards;
 #[cfg(test)]
 mod deciding;
 #[cfg(test)]
+mod ends;
+#[cfg(test)]
 mod exchanges;
 #[cfg(test)]
 mod meetings;

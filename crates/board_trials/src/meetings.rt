@@ -1,10 +1,10 @@
 //! Threads that install in the same words at the same time, so that they meet, and complete, each other's installs.
 ghost use Rattle.std.specs.Prelude.{◌≡◌, []};
 ghost use Rattle.pc_rule_law.specs.Conditions.{IsFree, CanWrite};
-ghost use Rattle.pc_rule.specs.Passes.{view, listed, IsPassOf, IsSeatedAs, IsSamePass};
+ghost use Rattle.pc_rule.specs.Passes.{view, listed, board_size, IsPassOf, IsSeatedAs, IsSamePass};
 ghost use Rattle.pc_rule.specs.Shares.{AreAll, NoneTried};
 ghost use Rattle.pc_dcss.specs.Installs.{KnowsPlace};
-ghost use Rattle.pc_kcas.specs.Exchanges.{IsPublished, own_exchange};
+ghost use Rattle.pc_kcas.specs.Exchanges.{IsUncleared, own_exchange};
 
 use crate::exchanges::{installed, published, value, version};
 use crate::withdrawals::withdrawn;
@@ -31,7 +31,7 @@ fn is_decided_or_met(answer: Installed) -> bool {
 fn install_often(board: &Board<Loose>, pass: &mut Pass<Loose>, one: Place, two: Place) -> bool
     requires pass { IsPassOf board.now pass.old }
     requires free { IsFree (view pass.old) }
-    requires published { IsPublished pass.old }
+    requires published { IsUncleared pass.old }
     requires one { KnowsPlace (view pass.old) (own_exchange pass.old) one }
     requires two { KnowsPlace (view pass.old) (own_exchange pass.old) two }
     ensures same { IsSamePass pass.old pass.new }
@@ -52,6 +52,7 @@ fn withdraw_and_install(board: &Board<Loose>, pass: &mut Pass<Loose>, new: u32) 
     requires pass { IsPassOf board.now pass.old }
     requires open { CanWrite (view pass.old) × (listed pass.old ≡ []) }
     requires free { IsFree (view pass.old) }
+    requires start { (board_size board.now).starts.version ≡ 0 }
     ensures seated { IsSeatedAs pass.old pass.new }
     ensures free { IsFree (view pass.new) }
 {
@@ -73,6 +74,7 @@ fn installed_in_threads<R: Threads + Sync>(
 ) -> u64
     requires all { AreAll board.now passes.old }
     requires open { NoneTried passes.old }
+    requires start { (board_size board.now).starts.version ≡ 0 }
     ensures { AreAll board.now passes.new }
 {
     let strange = AtomicU64::new(0);
@@ -80,6 +82,7 @@ fn installed_in_threads<R: Threads + Sync>(
         requires pass { IsPassOf board.now pass.old }
         requires open { CanWrite (view pass.old) × (listed pass.old ≡ []) }
         requires free { IsFree (view pass.old) }
+        requires start { (board_size board.now).starts.version ≡ 0 }
         ensures seated { IsSeatedAs pass.old pass.new }
         ensures free { IsFree (view pass.new) }
     {

@@ -6,8 +6,8 @@ use Rattle.pc_words.specs.declared.word.WordKind.TheVariants.{Plain, Install, Ex
 use Rattle.pc_words.specs.Words.{raw, kind, IsWord}
 use Rattle.pc_words.proofs.Words.{raw_kind}
 use Rattle.pc_rule_law.specs.Board.{Size, place_number}
-use Rattle.pc_rule_law.specs.Past.{Has, change}
-use Rattle.pc_rule_law.specs.Views.{Note, View, entry, placed, install_word, held, removed, clean, NoteInRange, AllNotes, with_notes}
+use Rattle.pc_rule_law.specs.Past.{Has}
+use Rattle.pc_rule_law.specs.Views.{Note, View, placed, install_word, held, removed, clean, NoteInRange, AllNotes, with_notes}
 use Rattle.pc_rule_law.specs.Plays.{own_notes, after_place, found, IsNotedSince}
 use Rattle.pc_rule_law.proofs.Lists.{has_right}
 use Rattle.pc_rule.specs.declared.opening.Place.{Place}
@@ -16,7 +16,13 @@ use Rattle.pc_rule.specs.declared.refs.RefKind.TheVariants.{Install as AnInstall
 use Rattle.pc_rule.specs.declared.refs.Ref.{Ref}
 use Rattle.pc_rule_law.specs.Conditions.{KnowsStill, KnowsEntry}
 use Rattle.pc_rule_law.proofs.Descriptors.{change_still}
-use Rattle.pc_dcss.specs.Installs.{entry_of, KnowsPlace, KeepsNotes, IsReady, IsPlaced, word_of, met_note, IsOther, IsMet, IsGone, IsNews, IsDifferent, OnHeld, IfMet, IfDiffers}
+use Rattle.pc_exchange_law.specs.Attempts.{came_to}
+use Rattle.pc_exchange_law.specs.Knowing.{Learns}
+use Rattle.pc_exchange_law.specs.Passes.{PassKnows}
+use Rattle.pc_exchange_law.specs.WholePlays.{IsNotCleared, OldDiffers}
+use Rattle.pc_exchange_law.specs.Wholes.{Whole}
+use Rattle.pc_dcss.proofs.Learnt.{cleared_kept}
+use Rattle.pc_dcss.specs.Installs.{entry_of, KnowsPlace, KeepsNotes, IsReady, IsPlaced, word_of, met_note, IsOther, IsMet, IsGone, IsNews, HasCome, IsDifferent, KnowsOutdated, OnHeld, IfMet, IfDiffers}
 use Rattle.pc_dcss.specs.declared.installed.Installed.{Installed}
 use Rattle.pc_dcss.specs.declared.installed.Installed.TheVariants.{Held, Decided, Differs, Met, Numbers as OutOfNumbers}
 
@@ -142,18 +148,61 @@ pub not_old : (r old x : ℕ) → IsWord r → old ≡ raw (Plain x) → r ≢ o
 not_old r old x is e ne k = ne (sym (raw_kind r is) ∙ (ap raw k ∙ sym e))
 
 -- the reference that was found isn't one that was known to be gone
-is_news : (v : View) (place : Place) (c : WordKind) (k : RefKind) (s m : ℕ) → c ≡ word_of k s m
-    → ((q j : ℕ) → c ≡ Install q j → Has v.notes (removed q j) → ⊥) → ((p a : ℕ) → c ≡ Exchange p a → Has v.notes (clean p a place.node place.field) → ⊥)
-    → IsGone k v.notes s m place.node place.field → ⊥
-is_news v place c AnInstall s m is present unclean gone = present s m is gone
-is_news v place c AnExchange s m is present unclean gone = unclean s m is gone
+is_news : (x : Whole) (place : Place) (w : ℕ) (k : RefKind) (s m : ℕ) → kind w ≡ word_of k s m
+    → ((q j : ℕ) → kind w ≡ Install q j → Has x.view.notes (removed q j) → ⊥)
+    → ((p a : ℕ) → kind w ≡ Exchange p a → Has x.view.notes (clean p a place.node place.field) → ⊥) → IsNotCleared x w
+    → IsGone k x s m place.node place.field → ⊥
+is_news x place w AnInstall s m is present unclean uncleared gone = present s m is gone
+is_news x place w AnExchange s m is present unclean uncleared gone = ⊎_elim (λ here. unclean s m is here) (λ all. uncleared s m is all) gone
 
-pub new_now : (v : View) (place : Place) (c : WordKind) (i : Installed) → IfMet i (λ r. c ≡ word_of r.kind r.seat r.number)
-    → ((q j : ℕ) → c ≡ Install q j → Has v.notes (removed q j) → ⊥) → ((p a : ℕ) → c ≡ Exchange p a → Has v.notes (clean p a place.node place.field) → ⊥)
-    → IfMet i (IsNews v.notes place)
+pub new_now : (x : Whole) (place : Place) (w : ℕ) (i : Installed) → IfMet i (λ r. kind w ≡ word_of r.kind r.seat r.number)
+    → ((q j : ℕ) → kind w ≡ Install q j → Has x.view.notes (removed q j) → ⊥)
+    → ((p a : ℕ) → kind w ≡ Exchange p a → Has x.view.notes (clean p a place.node place.field) → ⊥) → IsNotCleared x w
+    → IfMet i (IsNews x place)
 unfolding is_news
-new_now v place c Held is present unclean = tt
-new_now v place c Decided is present unclean = tt
-new_now v place c (Differs x) is present unclean = tt
-new_now v place c (Met r) is present unclean = λ gone. is_news v place c r.kind r.seat r.number is present unclean gone
-new_now v place c (OutOfNumbers n) is present unclean = tt
+new_now x place w Held is present unclean uncleared = tt
+new_now x place w Decided is present unclean uncleared = tt
+new_now x place w (Differs y) is present unclean uncleared = tt
+new_now x place w (Met r) is present unclean uncleared = λ gone. is_news x place w r.kind r.seat r.number is present unclean uncleared gone
+new_now x place w (OutOfNumbers n) is present unclean uncleared = tt
+
+-- what was known to be gone is so when the pass has learnt more, so what is news then was news
+gone_still : (x y : Whole) → KeepsNotes x.view y.view → Learns x.knows y.knows → y.view.seat ≡ x.view.seat → (k : RefKind) (s m n : ℕ) (f : Field)
+    → IsGone k x s m n f → IsGone k y s m n f
+gone_still x y keeps learns seat AnInstall s m n f gone = keeps (removed s m) gone
+gone_still x y keeps learns seat AnExchange s m n f gone = ⊎_elim (λ here. inl (keeps (clean s m n f) here))
+    (λ all. inr (cleared_kept x y keeps learns seat s m all)) gone
+
+pub news_before : (x y : Whole) → KeepsNotes x.view y.view → Learns x.knows y.knows → y.view.seat ≡ x.view.seat → (place : Place) (i : Installed)
+    → IfMet i (IsNews y place) → IfMet i (IsNews x place)
+unfolding gone_still
+news_before x y keeps learns seat place Held news = tt
+news_before x y keeps learns seat place Decided news = tt
+news_before x y keeps learns seat place (Differs d) news = tt
+news_before x y keeps learns seat place (Met r) news = λ gone. news (gone_still x y keeps learns seat r.kind r.seat r.number place.node place.field gone)
+news_before x y keeps learns seat place (OutOfNumbers n) news = tt
+
+-- the pass of the exchange that was met has come to it
+come_so : (k : PassKnows) (c : WordKind) (r : RefKind) (s m : ℕ) → c ≡ word_of r s m → ((p a : ℕ) → c ≡ Exchange p a → Has k.noted (came_to p a))
+    → r ≡ AnExchange → Has k.noted (came_to s m)
+come_so k c AnInstall s m is came exchange = absurd (cc)
+come_so k c AnExchange s m is came exchange = came s m is
+
+pub come_now : (k : PassKnows) (c : WordKind) (i : Installed) → IfMet i (λ r. c ≡ word_of r.kind r.seat r.number)
+    → ((p a : ℕ) → c ≡ Exchange p a → Has k.noted (came_to p a)) → IfMet i (HasCome k)
+unfolding come_so
+come_now k c Held is came = tt
+come_now k c Decided is came = tt
+come_now k c (Differs x) is came = tt
+come_now k c (Met r) is came = come_so k c r.kind r.seat r.number is came
+come_now k c (OutOfNumbers n) is came = tt
+
+-- where a number was found that isn't the old one, the exchange is outdated
+pub outdated_now : (x : Whole) (op : Ref) (place : Place) (r old : ℕ) (y : Whole) (i : Installed) → op.seat < 64
+    → x.view.install.op ≡ raw (Exchange op.seat op.number) → OldDiffers x place.node r old y → r ≢ old
+    → IfDiffers i (λ v. kind r ≡ Plain v) → IfDiffers i (λ v. KnowsOutdated y.knows op place)
+outdated_now x op place r old y Held small named differs other is = tt
+outdated_now x op place r old y Decided small named differs other is = tt
+outdated_now x op place r old y (Differs v) small named differs other is = differs other op.seat op.number v named small is
+outdated_now x op place r old y (Met m) small named differs other is = tt
+outdated_now x op place r old y (OutOfNumbers n) small named differs other is = tt

@@ -16,6 +16,8 @@ use Rattle.pc_rule_law.proofs.Lists.{all_one}
 use Rattle.pc_model.specs.Forms.{Form, Fits}
 use Rattle.pc_history.specs.Footprints.{IsAmong, RaisesVersionOf}
 use Rattle.pc_protocol.specs.Notes.{clock_was}
+use Rattle.pc_protocol.specs.Seeing.{ChangesVersion}
+use Rattle.pc_exchange_law.specs.ExchangeConditions.{KnowsOld, was_opened, KnowsBasis}
 use Rattle.pc_exchange_law.specs.Passes.{PassKnows}
 use Rattle.pc_exchange_law.specs.Ties.{exchange_of}
 use Rattle.pc_rule.specs.Conditions.{MayPublish}
@@ -89,6 +91,13 @@ raising a (inl is) = subst (RaisesVersionOf (exchange_of to_raise)) (sym (ap (λ
 }
 raising a (inr none) = absurd none
 
+-- the board opened with the version that it changes
+basing : KnowsBasis two knowing to_raise
+basing a (inl is) = subst
+    (λ (x : Changed). (v : ℕ) × ChangesVersion (exchange_of to_raise) x.node v × KnowsOld two knowing x.node v x.field x.old) (sym is)
+    (0, record { change = raise; among = inl refl; is_of = (refl, refl); old = refl }, was_opened refl refl)
+basing a (inr none) = absurd none
+
 -- where the exchange fits, the pass may publish it as attempt 4
 may_publish : (form : Form) → Fits form 1 (exchange_of to_raise) [] → MayPublish form two knowing (packed (record { number = 4; stage = Undecided }))
 may_publish form fits = (
@@ -105,6 +114,7 @@ may_publish form fits = (
     no_visits = refl;
     described = describes_too 1 to_raise stored.attempt.words described;
     fits = fits;
+    based = basing;
   },
 )
 

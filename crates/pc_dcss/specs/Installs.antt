@@ -1,5 +1,5 @@
 -- What clauses say of installs, by what a pass has noted.
-use Rattle.std.specs.Prelude.{◌≡◌, ◌≢◌, ◌⊎◌, ℕ, ◌-◌, ◌^◌, ◌<◌, ◌≤◌, true, List, ◌∷◌, ◌++◌}
+use Rattle.std.specs.Prelude.{◌≡◌, ◌≢◌, ◌⊎◌, ℕ, ◌-◌, ◌^◌, ◌<◌, ◌≤◌, true, ◌∷◌, ◌++◌}
 use Rattle.pc_model.specs.declared.cell.Field.{Field}
 use Rattle.pc_model.specs.declared.numbers.Numbers.{Numbers}
 use Rattle.pc_model.specs.Cells.{IsNode}
@@ -11,6 +11,12 @@ use Rattle.pc_rule_law.specs.Past.{Has, change}
 use Rattle.pc_rule_law.specs.Plays.{found, IsNotedSince}
 use Rattle.pc_rule_law.specs.Views.{Note, View, entry, placed, install_word, decided_below, held, removed, clean, IsInstall, IsAttempt, NoteInRange}
 use Rattle.pc_rule_law.specs.Conditions.{KnowsChange}
+use Rattle.pc_protocol.specs.Notes.{outdated}
+use Rattle.pc_exchange_law.specs.Attempts.{came_to}
+use Rattle.pc_exchange_law.specs.ExchangeConditions.{KnowsCleared}
+use Rattle.pc_exchange_law.specs.Passes.{PassKnows}
+use Rattle.pc_exchange_law.specs.Ties.{code}
+use Rattle.pc_exchange_law.specs.Wholes.{Whole}
 use Rattle.pc_model.specs.declared.cell.Counter.TheVariants.{Install as Installs}
 use Rattle.pc_rule.specs.declared.opening.Place.{Place}
 use Rattle.pc_rule.specs.declared.refs.RefKind.{RefKind}
@@ -78,17 +84,26 @@ abbrev pub IsMet : View → View → Ref → Place → Ref → Type 0
 IsMet v w op place r = (w.notes ≡ met_note r.kind r.seat r.number place.node place.field ∷ v.notes)
     × IsOther r.kind r.seat r.number w.seat op
 
--- it isn't one that the pass knew to be gone: an install that was taken away, or an exchange's of which the word is clean
-abbrev pub IsGone : RefKind → List Note → ℕ → ℕ → ℕ → Field → Type 0
-IsGone AnInstall known seat number n f = Has known (removed seat number)
-IsGone AnExchange known seat number n f = Has known (clean seat number n f)
+-- it isn't one that the pass knew to be gone: an install that was taken away; or an exchange's of which the word is clean, or
+-- which is gone from all words
+abbrev pub IsGone : RefKind → Whole → ℕ → ℕ → ℕ → Field → Type 0
+IsGone AnInstall x seat number n f = Has x.view.notes (removed seat number)
+IsGone AnExchange x seat number n f = Has x.view.notes (clean seat number n f) ⊎ KnowsCleared x seat number
 
-abbrev pub IsNews : List Note → Place → Ref → Type 0
-IsNews known place r = IsGone r.kind known r.seat r.number place.node place.field → ⊥
+abbrev pub IsNews : Whole → Place → Ref → Type 0
+IsNews x place r = IsGone r.kind x r.seat r.number place.node place.field → ⊥
+
+-- the pass of an exchange that was met is known to have come to it
+abbrev pub HasCome : PassKnows → Ref → Type 0
+HasCome k r = r.kind ≡ AnExchange → Has k.noted (came_to r.seat r.number)
 
 -- the word had this plain value, which isn't the old one: what is noted of a plain value was noted
 abbrev pub IsDifferent : View → View → Place → ℕ → Type 0
 IsDifferent v w place x = (x ≢ place.old) × (w.notes ≡ found place.node place.field (Plain x) ++ v.notes)
+
+-- and the exchange is outdated at the word's node
+abbrev pub KnowsOutdated : PassKnows → Ref → Place → Type 0
+KnowsOutdated k op place = Has k.told (outdated (code op.seat op.number) place.node)
 
 -- the answer is that there is no number
 abbrev pub IsOutOfNumbers : Installed → Type 0

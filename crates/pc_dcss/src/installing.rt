@@ -8,8 +8,8 @@ ghost use Rattle.pc_rule_law.specs.Views.{held};
 ghost use Rattle.pc_rule_law.specs.Conditions.{IsFree};
 ghost use Rattle.pc_rule.specs.declared.refs.RefKind.TheVariants.{Exchange};
 ghost use Rattle.pc_exchange_law.specs.Knowing.{Learns};
-ghost use Rattle.pc_rule.specs.Passes.{view, knows, board_size, IsPassOf, IsSamePass};
-ghost use Rattle.pc_dcss.specs.Installs.{IsDecidedSince, KnowsPlace, KeepsNotes, KeepsAttempt, IsReady, IsPlaced, IsMet, IsNews, IsDifferent, HasNoNumber, IsOutOfNumbers, described, word_of, last_install, OnHeld, OnDecided, IfDiffers, IfMet, IfNumbers};
+ghost use Rattle.pc_rule.specs.Passes.{whole, view, knows, board_size, IsPassOf, IsSamePass};
+ghost use Rattle.pc_dcss.specs.Installs.{IsDecidedSince, KnowsPlace, KeepsNotes, KeepsAttempt, IsReady, IsPlaced, IsMet, IsNews, HasCome, IsDifferent, KnowsOutdated, HasNoNumber, IsOutOfNumbers, described, word_of, last_install, OnHeld, OnDecided, IfDiffers, IfMet, IfNumbers};
 
 use crate::descriptor::{Words, number_of};
 use crate::installed::Installed;
@@ -105,7 +105,9 @@ fn put_install<H: Shape>(
     ensures decided { IfErr result (λ i. OnDecided i ⊥) }
     ensures differs { IfErr result (λ i. IfDiffers i (IsDifferent (view pass.old) (view pass.new) place)) }
     ensures met { IfErr result (λ i. IfMet i (λ r. IsMet (view pass.old) (view pass.new) op place r)) }
-    ensures fresh { IfErr result (λ i. IfMet i (IsNews (view pass.old).notes place)) }
+    ensures fresh { IfErr result (λ i. IfMet i (IsNews (whole pass.old) place)) }
+    ensures came { IfErr result (λ i. IfMet i (HasCome (knows pass.new))) }
+    ensures outdated { IfErr result (λ i. IfDiffers i (λ x. KnowsOutdated (knows pass.new) op place)) }
     ensures numbers { IfErr result (λ i. IfNumbers i (λ n. ⊥)) }
 {
     let old = plain(place.old);
@@ -143,7 +145,9 @@ pub fn place_install<H: Shape>(
     ensures decided { IfErr result (λ i. OnDecided i (IsDecidedSince (view pass.old) (view pass.new) op.seat op.number)) }
     ensures differs { IfErr result (λ i. IfDiffers i (IsDifferent (view pass.old) (view pass.new) place)) }
     ensures met { IfErr result (λ i. IfMet i (λ r. IsMet (view pass.old) (view pass.new) op place r)) }
-    ensures fresh { IfErr result (λ i. IfMet i (IsNews (view pass.old).notes place)) }
+    ensures fresh { IfErr result (λ i. IfMet i (IsNews (whole pass.old) place)) }
+    ensures came { IfErr result (λ i. IfMet i (HasCome (knows pass.new))) }
+    ensures outdated { IfErr result (λ i. IfDiffers i (λ x. KnowsOutdated (knows pass.new) op place)) }
     ensures numbers { IfErr result (λ i. IfNumbers i (HasNoNumber (view pass.old) (view pass.new))) }
     ensures last { last_install ≤ (view pass.old).install.number → IsErrAnd result IsOutOfNumbers }
 {
@@ -182,7 +186,9 @@ pub fn install<H: Shape>(board: &Board<H>, pass: &mut Pass<H>, op: Ref, place: P
     ensures decided { OnDecided result (IsDecidedSince (view pass.old) (view pass.new) op.seat op.number) }
     ensures differs { IfDiffers result (IsDifferent (view pass.old) (view pass.new) place) }
     ensures met { IfMet result (λ r. IsMet (view pass.old) (view pass.new) op place r) }
-    ensures fresh { IfMet result (IsNews (view pass.old).notes place) }
+    ensures fresh { IfMet result (IsNews (whole pass.old) place) }
+    ensures came { IfMet result (HasCome (knows pass.new)) }
+    ensures outdated { IfDiffers result (λ x. KnowsOutdated (knows pass.new) op place) }
     ensures numbers { IfNumbers result (HasNoNumber (view pass.old) (view pass.new)) }
     ensures last { last_install ≤ (view pass.old).install.number → IsOutOfNumbers result }
 {

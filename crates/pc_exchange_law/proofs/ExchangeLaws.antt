@@ -9,6 +9,8 @@ use Rattle.pc_rule_law.specs.Views.{View, NoteHolds, AllNotes}
 use Rattle.pc_rule_law.specs.Rule.{Own, Shared}
 use Rattle.pc_protocol.specs.Histories.{for_exchange, for_read, History}
 use Rattle.pc_protocol.specs.Steps.{draw, refer}
+use Rattle.pc_protocol.proofs.Bases.{bases_still}
+use Rattle.pc_protocol.proofs.Owned.{steps_keep_owned}
 use Rattle.pc_exchange_law.specs.Ties.{code, reference_in, exchange_of}
 use Rattle.pc_exchange_law.specs.Changes.{with_word, with_next_stamp, with_installs, ShowsSame, MayBecome}
 use Rattle.pc_exchange_law.specs.Attempts.{Scripts}
@@ -39,6 +41,7 @@ module _ (form : Form) (z : Size) (id : ℕ) (b : Board) (t : Past) (w : Scripts
     attempts = step.0.attempts;
     leaves = step.0.leaves_attempts;
     leaves_late = step.0.leaves_late;
+    unread = step.0.unread;
     known = step.1;
   }
 
@@ -58,15 +61,18 @@ module _ (form : Form) (z : Size) (id : ℕ) (b : Board) (t : Past) (w : Scripts
           tied = led.tied;
           scripts = (steps_keep_scripts z.slots b t w world.scripts).looks b' t' same.statuses keeps.words same.attempts;
           clock = subst (λ (c : ℕ). ClockIsBounded z.seats c late) (sym same.clock) world.clock;
+          opened = world.opened;
           opening = world.opening;
           charged = world.charged;
           fits = λ p a small published. subst (λ (x : Attempt). Fits form z.slots (exchange_of x) (world.charged p a))
               (sym (same.attempts p a)) (world.fits p a small published);
+          based = world.based;
         };
         keeps = led.keeps;
         attempts = grows;
         leaves = (steps_leave_attempts id b h).others b' h keeps.statuses (λ j place _. keeps.words j place) (λ x. refl);
         leaves_late = λ j ne. refl;
+        unread = λ j s is. is;
         known = record {
           own = own_same b h id k.own b' h seated keeps.statuses keeps.words (λ x. refl) known.own;
           ready = known.ready;
@@ -93,14 +99,17 @@ module _ (form : Form) (z : Size) (id : ℕ) (b : Board) (t : Past) (w : Scripts
           scripts = (steps_keep_scripts z.slots b t w world.scripts).looks b' t' (λ p. refl) (λ p place. refl)
               (λ p a. refl);
           clock = world.clock;
+          opened = world.opened;
           opening = world.opening;
           charged = world.charged;
           fits = world.fits;
+          based = bases_still h h' led.keeps (λ x is. is) world.based;
         };
         keeps = led.keeps;
         attempts = grows;
         leaves = (steps_leave_attempts id b h).others b' h' (λ p. refl) (λ j place _. refl) (λ x. refl);
         leaves_late = λ j ne. refl;
+        unread = ((steps_keep_owned h world.rule).refers n f (reference_in c)).unread;
         known = record {
           own = own_same b h id k.own b' h' seated (λ p. refl) (λ p place. refl) (λ x. refl) known.own;
           ready = known.ready;

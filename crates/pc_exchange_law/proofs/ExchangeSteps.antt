@@ -10,14 +10,14 @@ use Rattle.pc_words.specs.Statuses.{StageInRange}
 use Rattle.pc_rule_law.specs.Board.{Size, Board, put2}
 use Rattle.pc_rule_law.specs.Past.{Has, Attempt, Past, change, Describes}
 use Rattle.pc_rule_law.specs.Stages.{IsIdle, IsOpen, DecidedBelow}
-use Rattle.pc_rule_law.specs.Views.{View, version, held, clean, IsClean, NoteHolds, AllNotes}
+use Rattle.pc_rule_law.specs.Views.{View, held, clean, IsClean, NoteHolds, AllNotes}
 use Rattle.pc_rule_law.specs.Rule.{Own, Shared}
 use Rattle.pc_rule_law.proofs.Stages.{open_not_idle}
 use Rattle.pc_rule_law.proofs.WordMoves.{WordMoves}
 use Rattle.pc_rule_law.proofs.Outcomes as Outcomes
 use Rattle.pc_protocol.specs.Histories.{for_exchange, for_read, Cause, withdrawn, ended, changed, locked, Stage, absent, undecided, committed, aborted}
 use Rattle.pc_protocol.specs.Histories.{History, value_by}
-use Rattle.pc_protocol.specs.Notes.{clock_was, drew, verdict}
+use Rattle.pc_protocol.specs.Notes.{clock_was, drew, verdict, outdated}
 use Rattle.pc_protocol.specs.Steps.{draw, publish, commit, CanCommit, abort, CanAbort, refer}
 use Rattle.pc_protocol.proofs.Stages.{same_cause}
 use Rattle.pc_exchange_law.specs.Ties.{code, exchange_of}
@@ -34,8 +34,9 @@ use Rattle.pc_exchange_law.proofs.AttemptNotes.{attempts_are_known}
 use Rattle.pc_exchange_law.proofs.Knowing.{decided_on_board}
 use Rattle.pc_exchange_law.proofs.KnowingSteps.{store_known, publication_known, draw_known, refusal_known, decision_known}
 use Rattle.pc_exchange_law.proofs.KnowingSteps.{withdrawal_known, clearing_known, unchanged_known}
-use Rattle.pc_exchange_law.proofs.Serving.{notes_draw, notes_fail, notes_take, notes_clear}
-use Rattle.pc_exchange_law.proofs.TieDecisions.{may_commit, may_withdraw, may_end}
+use Rattle.pc_exchange_law.proofs.OldNumbers.{basis_is}
+use Rattle.pc_exchange_law.proofs.Serving.{notes_draw, notes_take, notes_clear}
+use Rattle.pc_exchange_law.proofs.TieDecisions.{may_commit, may_withdraw, may_end, may_fail}
 use Rattle.pc_exchange_law.proofs.Worlds.{Goes, store_goes, word_goes, draw_goes, other_draw_goes, late_after}
 use Rattle.pc_exchange_law.proofs.WorldStatuses.{is_busy, publish_goes, success_goes, failure_goes, clearing_goes}
 
@@ -88,7 +89,7 @@ module _ (form : Form) (z : Size) (few : z.seats ≤ 32) (id : ℕ) (b : Board) 
       let described : Describes z.slots x (b.word id) = subst (Describes z.slots x)
       (λ i place. sym (known.own.words place) i) may.described in
       let goes = publish_goes form z id b t w h late shared world seated c x keys idle room past may.formed may.raises
-      may.no_visits described may.fits in (
+      may.no_visits described may.fits (basis_is z h k world.rule world.opened known.told x may.based) in (
         goes,
         publication_known form z id b t w h late k known seated
             (with_status b id (record { number = a; stage = Undecided }))
@@ -102,10 +103,10 @@ module _ (form : Form) (z : Size) (few : z.seats ≤ 32) (id : ℕ) (b : Board) 
       × IsKnown (with_next_stamp b) t w (draw h (for_exchange (code p a))) late' id (after_draw k (code p a) h.clock))
   draw_step p a may =
       let next = late_after form z id b t w h late few shared world own.seated.1 (known.ready may.ready) in
-      let first = noted (held p a (may.places.each 0 may.some).0 (may.places.each 0 may.some).1) (may.each 0 may.some) in
-      let small : p < 64 = let lt = first.1.0.0 in omega arith in
+      let met = noted (held p a may.met.0 may.met.1) may.met.2 in
+      let small : p < 64 = let lt = met.1.0.0 in omega arith in
       let can = notes_draw z.slots b t w h v.seat k.own k.noted world.scripts my_attempt known.noted world.rule world.tied
-      p a small may.places may.some
+      p a small may.met.0 may.met.1 met.0 may.places
       (λ i below. (noted (held p a (may.places.each i below).0 (may.places.each i below).1) (may.each i below)).0) in
       let goes = draw_goes form z id b t w h late few shared world next.0 next.1 next.2 (code p a) can in
       (next.0, (goes, draw_known form z id b t w h late k known seated (code p a) next.0 goes))
@@ -147,26 +148,25 @@ module _ (form : Form) (z : Size) (few : z.seats ≤ 32) (id : ℕ) (b : Board) 
             (λ e. (own_is_busy p pending e, λ is. absurd (let clash : committed s ≡ aborted withdrawn = is in cc))),
       )
 
-  not_of_own_accord : (p a : ℕ) (cause : Cause) → MayFail v k p a cause → cause ≢ withdrawn
+  not_of_own_accord : (p a : ℕ) (cause : Cause) → MayFail k p a cause → cause ≢ withdrawn
   not_of_own_accord p a withdrawn may is = may
   not_of_own_accord p a ended may is = absurd (let clash : ended ≡ withdrawn = is in cc)
   not_of_own_accord p a (changed n) may is = absurd (let clash : changed n ≡ withdrawn = is in cc)
   not_of_own_accord p a (locked n q) may is = may
 
   -- a failure that isn't of the pass's own accord
-  may_abort : (p : ℕ) → p < 64 → IsOpen (b.status p).stage → (cause : Cause) → MayFail v k p (b.status p).number cause
+  may_abort : (p : ℕ) → p < 64 → IsOpen (b.status p).stage → (cause : Cause) → MayFail k p (b.status p).number cause
       → CanAbort h (code p (b.status p).number) cause
   may_abort p small pending withdrawn may = absurd may
   may_abort p small pending ended may = may_end b t h world.tied p (b.status p).number small (refl, pending)
       (let seen : may.0 ≤ h.clock = known.told (clock_was may.0) may.1 in let last = may.2 in
       let same : h.clock ≡ b.clock = world.tied.clock in omega arith)
-  may_abort p small pending (changed n) may = notes_fail z.slots b t w h v.seat k.own k.noted world.scripts my_attempt
-      known.noted world.rule world.tied p (b.status p).number small (refl, pending) may.entry n may.old may.new may.seen
-      may.known (noted (version n may.seen) may.noted).0 may.past
+  may_abort p small pending (changed n) may = may_fail b t h world.tied p (b.status p).number small (refl, pending) n
+      (known.told (outdated (code p (b.status p).number) n) may)
   may_abort p small pending (locked n q) may = absurd may
 
   pub failure_step : (p : ℕ) (cause : Cause) → p < 64 → IsOpen (b.status p).stage → StageInRange (stage_by cause)
-      → MayFail v k p (b.status p).number cause
+      → MayFail k p (b.status p).number cause
       → let y : ℕ = code p (b.status p).number in let b' = with_status b p (at_stage b p (stage_by cause)) in
       Goes form z id b t w h late b' t w (abort h y cause) late
       × IsKnown b' t w (abort h y cause) late id (after_decision k y (aborted cause))

@@ -1,6 +1,8 @@
 -- What a pass knows after each kind of step is so.
 use Rattle.std.proofs.Common.{◌≡◌, ℕ, ◌+◌, ◌<◌, ◌≤◌, ⊎_elim, Bool, ◌==◌, true, List, [], ◌∷◌, ◌++◌, refl, sym, ◌∙◌, subst, arith}
 use Rattle.std.proofs.lemmas.Bool.{cases_lt}
+use Rattle.pc_words.specs.declared.status.Stage.{Stage as StatusStage}
+use Rattle.pc_words.specs.declared.status.Stage.TheVariants.{Idle, Undecided, Succeeded, Withdrawn, Changed as ChangedNode, Locked}
 use Rattle.pc_words.specs.declared.status.Status.{Status}
 use Rattle.pc_rule_law.specs.Board.{Board}
 use Rattle.pc_rule_law.specs.Past.{Has, Past}
@@ -9,9 +11,9 @@ use Rattle.pc_rule_law.proofs.Lists.{has_first, has_later, has_left, has_right, 
 use Rattle.pc_rule_law.proofs.Stages.{open_or_not}
 use Rattle.pc_protocol.specs.Histories.{Stage, History, IsDecided}
 use Rattle.pc_protocol.specs.Rules.{Rule}
-use Rattle.pc_protocol.specs.Notes.{Note, clock_was, verdict, IsTrueNote}
+use Rattle.pc_protocol.specs.Notes.{Note, clock_was, published, verdict, rival, outdated, IsTrueNote}
 use Rattle.pc_protocol.proofs.Stages.{absent_not_decided, decided_not_undecided}
-use Rattle.pc_exchange_law.specs.Ties.{code, last_stamp, IsTied}
+use Rattle.pc_exchange_law.specs.Ties.{code, last_stamp, IsStageOf, IsTied}
 use Rattle.pc_exchange_law.specs.Attempts.{Scripts, AreScripts, AttemptNote, came_to, loaded_word, listed_word, calm, calm_but}
 use Rattle.pc_exchange_law.specs.Attempts.{IsTrueAttemptNote}
 use Rattle.pc_exchange_law.specs.ClockEnds.{ClockIsBounded}
@@ -141,6 +143,8 @@ module _ (slots : ℕ) (b : Board) (t : Past) (w : Scripts) (h : History) (late 
         came = has_first (came_to p s.number) k.noted;
         settles = λ busy. absurd (busy idle);
         decided = λ busy. absurd (busy idle);
+        outdated = λ n is. absurd (subst IsIdle is idle);
+        locked = λ n q is. absurd (subst IsIdle is idle);
       },
       more_known (came_to p s.number ∷ []) [] (all_one (IsTrueAttemptNote b t w) (came_to p s.number) came_here)
           (all_none (IsTrueNote h)),
@@ -155,27 +159,71 @@ module _ (slots : ℕ) (b : Board) (t : Past) (w : Scripts) (h : History) (late 
         settles = λ _ place x has. has_later (came_to p s.number) (settled ++ k.noted) (listed_word p s.number place x)
             (has_left settled k.noted (listed_word p s.number place x) (settles_here place x has));
         decided = λ _ closed. absurd (closed pending);
+        outdated = λ n is. absurd (subst IsOpen is pending);
+        locked = λ n q is. absurd (subst IsOpen is pending);
       },
       more_known more [] (all_more (IsTrueAttemptNote b t w) (came_to p s.number) settled came_here
           (all_learnt (IsTrueAttemptNote b t w) settled_by k.noted (λ n has. settled_true busy n (known.noted n has))))
           (all_none (IsTrueNote h)),
     )
 
+    -- one that says which node changed, or is locked
+    causes_by : StatusStage → List Note
+    causes_by Idle = []
+    causes_by Undecided = []
+    causes_by (Succeeded i) = []
+    causes_by Withdrawn = []
+    causes_by (ChangedNode n) = outdated (code p s.number) n ∷ []
+    causes_by (Locked n q) = rival q n (h.published_at (code p s.number)) ∷ []
+
+    causes_true : (u : StatusStage) (st : Stage) → IsStageOf u st → IsTrueNote h (verdict (code p s.number) st) → (m : Note)
+        → Has (causes_by u) m
+        → IsTrueNote h m
+    unfolding causes_by
+    causes_true Idle st is noted = all_none (IsTrueNote h)
+    causes_true Undecided st is noted = all_none (IsTrueNote h)
+    causes_true (Succeeded i) st is noted = all_none (IsTrueNote h)
+    causes_true Withdrawn st is noted = all_none (IsTrueNote h)
+    causes_true (ChangedNode n) st is noted = all_one (IsTrueNote h) (outdated (code p s.number) n)
+        ((board_tells b t h rule tied).was_outdated (code p s.number) n
+        (subst (λ (u : Stage). IsTrueNote h (verdict (code p s.number) u)) is noted))
+    causes_true (Locked n q) st is noted = all_one (IsTrueNote h) (rival q n (h.published_at (code p s.number)))
+        ((board_tells b t h rule tied).was_locked (code p s.number) n q
+        (subst (λ (u : Stage). IsTrueNote h (verdict (code p s.number) u)) is noted))
+
+    has_outdated : (n : ℕ) → s.stage ≡ ChangedNode n → Has (causes_by s.stage) (outdated (code p s.number) n)
+    unfolding causes_by
+    has_outdated n is = subst (λ (u : StatusStage). Has (causes_by u) (outdated (code p s.number) n)) (sym is)
+        (has_first (outdated (code p s.number) n) [])
+
+    has_rival : (n q : ℕ) → s.stage ≡ Locked n q → Has (causes_by s.stage) (rival q n (h.published_at (code p s.number)))
+    unfolding causes_by
+    has_rival n q is = subst (λ (u : StatusStage). Has (causes_by u) (rival q n (h.published_at (code p s.number)))) (sym is)
+        (has_first (rival q n (h.published_at (code p s.number))) [])
+
     seen_closed : (IsIdle s.stage → ⊥) → (IsOpen s.stage → ⊥) → Seen
     seen_closed busy closed = let settled = learnt settled_by k.noted in let more = came_to p s.number ∷ settled in
         let d = (board_tells b t h rule tied).decided p small busy closed in
-        let told = verdict (code p s.number) d.0 ∷ [] in (
+        let causes = causes_by s.stage in let told = verdict (code p s.number) d.0 ∷ causes in (
           with_more k more told,
           record {
             learns = more_learns more told;
             came = has_first (came_to p s.number) (settled ++ k.noted);
             settles = λ _ place x has. has_later (came_to p s.number) (settled ++ k.noted) (listed_word p s.number place x)
                 (has_left settled k.noted (listed_word p s.number place x) (settles_here place x has));
-            decided = λ _ _. (d.0, d.1, has_first (verdict (code p s.number) d.0) k.told);
+            decided = λ _ _. (d.0, d.1, has_first (verdict (code p s.number) d.0) (causes ++ k.told));
+            outdated = λ n is. has_later (verdict (code p s.number) d.0) (causes ++ k.told) (outdated (code p s.number) n)
+                (has_left causes k.told (outdated (code p s.number) n) (has_outdated n is));
+            locked = λ n q is. let c : ℕ = h.published_at (code p s.number) in (
+              c,
+              has_later (verdict (code p s.number) d.0) (causes ++ k.told) (rival q n c)
+                  (has_left causes k.told (rival q n c) (has_rival n q is)),
+              λ e b' has. sym (known.told (published (code p s.number) e b') has).2,
+            );
           },
           more_known more told (all_more (IsTrueAttemptNote b t w) (came_to p s.number) settled came_here
               (all_learnt (IsTrueAttemptNote b t w) settled_by k.noted (λ n has. settled_true busy n (known.noted n has))))
-              (all_one (IsTrueNote h) (verdict (code p s.number) d.0) d.2),
+              (all_more (IsTrueNote h) (verdict (code p s.number) d.0) causes d.2 (causes_true s.stage d.0 d.1 d.2)),
         )
 
     pub status_seen : Seen

@@ -9,8 +9,10 @@ pub mod ExchangeSteps
 pub mod Knowing
 pub mod KnowingSteps
 pub mod NoteLists
+pub mod OldNumbers
 pub mod OwnAttempts
 pub mod Passes
+pub mod Paths
 pub mod Serving
 pub mod Statuses
 pub mod TieDecisions
@@ -29,9 +31,12 @@ pub mod WholeCells
 pub mod WholeClosings
 pub mod WholeDecisions
 pub mod WholeDraws
+pub mod WholeFound
 pub mod WholeKeeping
 pub mod WholeLooks
 pub mod WholeOpenings
+pub mod WholePaths
+pub mod WholeReads
 pub mod WholeReferences
 pub mod WholeSeats
 pub mod WholeSteps
@@ -39,6 +44,7 @@ pub mod WholeStores
 pub mod WholeWords
 mod WorkedAttempts
 mod WorkedExchange
+mod WorkedFailure
 mod WorkedOpening
 mod WorkedSteps
 pub mod WorldStatuses

@@ -1,7 +1,9 @@
 -- A step leaves what the other passes know, and the notes of the one that steps. And a board opens so.
-use Rattle.std.proofs.Common.{◌≢◌, ℕ, ◌<◌, ◌≤◌, Bool, false, [], refl, ◌∙◌}
+use Rattle.std.proofs.Common.{◌≡◌, ◌≢◌, ℕ, ◌<◌, ◌≤◌, Bool, false, [], refl, ◌∙◌}
+use Rattle.pc_model.specs.declared.cell.Field.{Field}
 use Rattle.pc_model.specs.Cells.{Cells}
 use Rattle.pc_model.specs.Forms.{Form, IsSound}
+use Rattle.pc_model.specs.Linked.{opening_cells}
 use Rattle.pc_rule_law.specs.Board.{Size, Board}
 use Rattle.pc_rule_law.specs.Past.{Has, Past}
 use Rattle.pc_rule_law.specs.Openings.{opening_board, opening_attempt, opening_words}
@@ -63,16 +65,19 @@ module _ (form : Form) (z : Size) (cells : Cells) where
   abbrev h0 : History
   h0 = opening_history cells z.starts.stamp
 
-  pub world_opens : IsSound form z.slots cells → z.starts.stamp ≤ last_stamp
+  pub world_opens : ((n : ℕ) (f : Field) → cells n f ≡ opening_cells z.starts.version n f) → IsSound form z.slots cells
+      → z.starts.stamp ≤ last_stamp
       → World form z b0 t0 no_scripts h0 (λ j. false)
-  world_opens sound early = let opened : HasOpened b0 t0 cells = openings_are_tied.usual z cells in record {
+  world_opens usual sound early = let opened : HasOpened b0 t0 cells = openings_are_tied.usual z cells in record {
     rule = opened.rule;
     tied = opened.tied;
     scripts = (attempts_open z cells).scripts;
     clock = clock_ends.opening z.seats z.starts.stamp early;
+    opened = usual;
     opening = sound;
     charged = λ p a. [];
     fits = λ p a small published. absurd published;
+    based = λ x published. absurd published;
   }
 
   pub known_at_opening : (j : ℕ) → IsKnown b0 t0 no_scripts h0 (λ j. false) j (knows_nothing z.starts.attempt)

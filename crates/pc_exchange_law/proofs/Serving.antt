@@ -1,28 +1,24 @@
--- What notes serve for, as the steps of an exchange will ask it: that a stamp may be drawn, an attempt may fail, a
--- reference be replaced by a number, and a decided attempt be cleared. Each is from what the pass knows, and the
--- rule.
+-- What notes serve for, as the steps of an exchange will ask it: that a stamp may be drawn, a reference be replaced by a
+-- number, and a decided attempt be cleared. Each is from what the pass knows, and the rule.
 use Rattle.std.proofs.Common.{◌≡◌, ℕ, ⊎_elim, false, refl, sym, ap, ◌∙◌, subst, ◌<◌, ◌≤◌, List, arith, ◌+◌, ◌*◌, ◌^◌, length}
 use Rattle.pc_model.specs.declared.cell.Field.{Field}
-use Rattle.pc_model.specs.declared.cell.Field.TheVariants.{Version}
 use Rattle.pc_model.specs.Cells.{IsNode}
 use Rattle.pc_model.specs.Exchanges.{Changed}
 use Rattle.pc_words.specs.declared.word.WordKind.TheVariants.{Exchange}
 use Rattle.pc_words.specs.declared.status.Stage.{Stage as StatusStage}
 use Rattle.pc_words.specs.declared.status.Stage.TheVariants.{Withdrawn}
 use Rattle.pc_rule_law.specs.Board.{Board, place_number}
-use Rattle.pc_rule_law.specs.Past.{Has, Attempt, Past, Describes, IsFormed}
-use Rattle.pc_rule_law.specs.Stages.{IsUndecided as IsUndecidedAttempt}
-use Rattle.pc_rule_law.specs.Views.{version, held, clean, IsClean, IsNoted}
+use Rattle.pc_rule_law.specs.Past.{Has, Attempt, Past, change, Describes, IsFormed}
+use Rattle.pc_rule_law.specs.Views.{held, clean, IsClean, IsNoted}
 use Rattle.pc_rule_law.proofs.Lists.{element_at}
-use Rattle.pc_protocol.specs.Histories.{Stage, changed, History, value_by}
+use Rattle.pc_protocol.specs.Histories.{Stage, History, value_by}
 use Rattle.pc_protocol.specs.Rules.{Rule}
 use Rattle.pc_protocol.specs.Notes.{verdict, IsTrueNote}
-use Rattle.pc_protocol.specs.Steps.{CanDraw, CanAbort}
+use Rattle.pc_protocol.specs.Steps.{CanDraw}
 use Rattle.pc_exchange_law.specs.Ties.{code, last_stamp, IsStageOf, IsTied}
 use Rattle.pc_exchange_law.specs.Attempts.{Scripts, AreScripts, OwnAttempt, word_in, OwnsAttempt, AttemptNote, IsTrueAttemptNote}
 use Rattle.pc_exchange_law.specs.Attempts.{KnowsWord, KnowsEntry, KnowsPlaces}
 use Rattle.pc_exchange_law.proofs.AttemptNotes.{attempts_are_known, known_each}
-use Rattle.pc_exchange_law.proofs.TieDecisions.{may_fail}
 use Rattle.pc_exchange_law.proofs.TieDraws.{may_draw}
 use Rattle.pc_exchange_law.proofs.TieTelling.{board_tells}
 
@@ -34,27 +30,15 @@ module _ (slots : ℕ) (b : Board) (t : Past) (w : Scripts) (h : History) (seat 
   pub own_describes : (x : Attempt) → Describes slots x (word_in o.words) → Describes slots x (b.word seat)
   own_describes x described = subst (Describes slots x) (λ i place. sym (own.words place) i) described
 
-  -- a stamp for an attempt that has a change: each of its words is known, and noted to hold its reference
-  pub notes_draw : p < 64 → (k : KnowsPlaces notes seat o p a) → 0 < k.count
+  -- a stamp for an attempt that was met: each of its words is known, and noted to hold its reference
+  pub notes_draw : p < 64 → (n : ℕ) (f : Field) → IsNoted b t (held p a n f) → (k : KnowsPlaces notes seat o p a)
       → ((i : ℕ) (below : i < k.count) → IsNoted b t (held p a (k.each i below).0 (k.each i below).1))
       → CanDraw h (code p a)
-  notes_draw small k some each =
-      let first = each 0 some in
-      let published = (board_tells b t h rule tied).listed p a
-      (record { node = (k.each 0 some).0; field = (k.each 0 some).1; old = first.2.0; new = first.2.1 }) small first.0
-      first.2.2 in
+  notes_draw small n f met k each =
+      let published = (board_tells b t h rule tied).listed p a (change n f met.2.0 met.2.1) small met.0 met.2.2 in
       may_draw b t h tied p a small published
       (λ x has u. known_each slots b t w h seat o notes scripts own noted p a
-      (λ n f. b.cell n f ≡ Exchange p a) k (λ i below. (each i below).1 u) x has)
-
-  -- a failure: the version of an entry is past
-  pub notes_fail : p < 64 → IsUndecidedAttempt b.status p a → (i n old new v : ℕ)
-      → KnowsEntry notes seat o p a i n Version old new → IsNoted b t (version n v) → old < v
-      → CanAbort h (code p a) (changed n)
-  notes_fail small u i n old new v entry past less =
-      let known = (attempts_are_known slots b t w h seat o notes scripts own noted).entry p a i n Version old new entry in
-      may_fail b t h tied p a small u rule n old new known.1
-      (let least : v ≤ t.plain n Version = past in omega arith)
+      (λ m g. b.cell m g ≡ Exchange p a) k (λ i below. (each i below).1 u) x has)
 
   -- what a reference is replaced by, where it's noted how the attempt was decided
   pub notes_take : (i n : ℕ) (f : Field) (old new : ℕ) (st : Stage) → KnowsEntry notes seat o p a i n f old new

@@ -1,8 +1,7 @@
 -- A pass's attempt is decided: it takes effect at a stamp, or fails for a cause. And a decided one is cleared, which
 -- is no step of the protocol.
-use Rattle.std.proofs.Common.{◌≡◌, ℕ, ◌<◌, ◌≤◌, inr, ⊎_elim, [], Option, Some, None, refl, sym, ◌∙◌, subst, arith}
+use Rattle.std.proofs.Common.{◌≡◌, ℕ, ◌<◌, ◌≤◌, ⊎_elim, [], Option, Some, None, refl, sym, subst, arith}
 use Rattle.pc_model.specs.declared.cell.Field.{Field}
-use Rattle.pc_model.specs.declared.cell.Field.TheVariants.{Version}
 use Rattle.pc_model.specs.Cells.{Cells}
 use Rattle.pc_model.specs.Exchanges.{FreshNode, Exchange as PathExchange}
 use Rattle.pc_words.specs.declared.status.Stage.{Stage as StatusStage}
@@ -11,20 +10,19 @@ use Rattle.pc_history.specs.Footprints.{IsAmong}
 use Rattle.pc_history.specs.Updates.{updated}
 use Rattle.pc_history.proofs.Updates.{on_updated, from_updated}
 use Rattle.pc_rule_law.specs.Board.{Board, put}
-use Rattle.pc_rule_law.specs.Past.{Has, Past, change}
+use Rattle.pc_rule_law.specs.Past.{Past}
 use Rattle.pc_rule_law.specs.Stages.{IsOpen, IsUndecided as IsUndecidedAttempt}
 use Rattle.pc_rule_law.proofs.Updates.{at_put}
 use Rattle.pc_protocol.specs.Histories.{Cause, withdrawn, ended, changed, Stage, committed, aborted, Slot, used, History}
 use Rattle.pc_protocol.specs.Histories.{IsPublished, IsUndecided, IsUsed}
 use Rattle.pc_protocol.specs.Rules.{Rule}
-use Rattle.pc_protocol.specs.Notes.{drew, IsTrueNote}
+use Rattle.pc_protocol.specs.Notes.{drew, outdated, IsTrueNote}
 use Rattle.pc_protocol.specs.Steps.{slots_with, commit, CanCommit, abort, CanAbort}
-use Rattle.pc_protocol.proofs.Stages.{undecided_is_published, used_not_spare}
+use Rattle.pc_protocol.proofs.Stages.{undecided_is_published}
 use Rattle.pc_protocol.proofs.Commits.{commit_keeps}
 use Rattle.pc_protocol.proofs.Aborts.{abort_keeps}
 use Rattle.pc_exchange_law.specs.Ties.{code, last_stamp, IsStageOf, SaysOf, exchange_of, IsTied}
 use Rattle.pc_exchange_law.specs.Changes.{with_status, with_values, at_stage, stage_by, Leads}
-use Rattle.pc_exchange_law.proofs.ChangeLists.{has_among}
 use Rattle.pc_exchange_law.proofs.TieDraws.{nothing_changes}
 use Rattle.pc_exchange_law.proofs.Statuses.{undecided_in_history, undecided_is_open, stages_moved, still_published, others_say, says_now, cause_is_told}
 
@@ -154,20 +152,5 @@ module _ (b : Board) (t : Past) (h : History) (tied : IsTied b t h) (p a : ℕ) 
     cause = let same : h.clock ≡ b.clock = tied.clock in let end : h.last ≡ last_stamp = tied.last in omega arith;
   }
 
-  pub may_fail : Rule h → (n v new : ℕ) → Has (t.attempt p a).changes (change n Version v new) → v < t.plain n Version
-      → CanAbort h (code p a) (changed n)
-  may_fail rule n v new has less = record {
-    undecided = undecided_there;
-    cause = (
-      v,
-      inr (record {
-        change = change n Version v new;
-        among = subst (λ (e : PathExchange). IsAmong (change n Version v new) e.changes) (sym is_exchange)
-            (has_among (t.attempt p a).changes (change n Version v new) has);
-        is_of = (refl, refl);
-        old = refl;
-      }),
-      subst (λ (i : ℕ). v < i) (sym (tied.plain n Version)
-          ∙ rule.plain_is n Version (used_not_spare (h.slot n) (tied.used n))) less,
-    );
-  }
+  pub may_fail : (n : ℕ) → IsTrueNote h (outdated (code p a) n) → CanAbort h (code p a) (changed n)
+  may_fail n noted = record { undecided = undecided_there; cause = noted.1 }

@@ -67,6 +67,7 @@ module _ (b : Board) (t : Past) (h : History) (rule : Rule h) (tied : IsTied b t
     below = λ x among. subst (λ (c : ℕ). x.stamp < c) tied.clock (is_list.only x among).0;
     each = of_run;
     leaves = leaves_plain;
+    item_stands = λ s e item. is_list.all s e ((rule_tells h rule).item_stands s e item).below item;
     committed_stands = stands_at;
     succeeded_stands = λ p s small is. stands_at p (b.status p).number s small
         (subst (λ (u : StatusStage). IsStageOf u (h.stage (code p (b.status p).number))) is

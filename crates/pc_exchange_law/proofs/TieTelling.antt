@@ -1,5 +1,5 @@
 -- What the clock, the words and the statuses of a tied board tell is true at once.
-use Rattle.std.proofs.Common.{◌≡◌, ℕ, ◌<◌, ◌≤◌, ⊎_elim, [], Some, refl, sym, ap, ◌∙◌, subst, arith}
+use Rattle.std.proofs.Common.{◌≡◌, ◌≢◌, ℕ, ◌<◌, ◌≤◌, ⊎_elim, [], Some, refl, sym, ap, ◌∙◌, subst, arith}
 use Rattle.pc_model.specs.declared.cell.Field.{Field}
 use Rattle.pc_model.specs.declared.cell.Field.TheVariants.{Version}
 use Rattle.pc_model.specs.Exchanges.{Changed, Exchange as PathExchange}
@@ -12,7 +12,9 @@ use Rattle.pc_rule_law.specs.Stages.{IsUndecided as IsUndecidedAttempt}
 use Rattle.pc_protocol.specs.Histories.{ended, changed, Stage, committed, aborted, History, cells_now, IsPublished, value_by, IsSpare}
 use Rattle.pc_protocol.specs.Seeing.{ChangesVersion}
 use Rattle.pc_protocol.specs.Rules.{Refers, IsCause, Rule}
-use Rattle.pc_protocol.specs.Notes.{clock_was, visited, read_word, verdict, IsTrueNote}
+use Rattle.pc_protocol.specs.Notes.{clock_was, visited, read_word, verdict, outdated, IsTrueNote}
+use Rattle.pc_protocol.specs.Bases.{IsBased}
+use Rattle.pc_protocol.proofs.Bases.{bases_tell}
 use Rattle.pc_protocol.proofs.Loads.{loads_tell}
 use Rattle.pc_protocol.proofs.Stages.{aborted_is_published, committed_is_published, undecided_is_published, used_not_spare}
 use Rattle.pc_exchange_law.specs.Ties.{code, last_stamp, reference_in, IsSeated, IsStageOf, exchange_of, IsTied}
@@ -111,6 +113,15 @@ module _ (b : Board) (t : Past) (h : History) (rule : Rule h) (tied : IsTied b t
       let late : h.last ≤ h.clock = rule.caused x ended noted.0 in
       let end : h.last ≡ last_stamp = tied.last in let now : h.clock ≡ b.clock = tied.clock in omega arith
 
+  -- another number than the old one, in a word of an attempt that rests on its old numbers
+  outdates_told : (p a : ℕ) (x : Changed) → p < 64 → a ≤ (b.status p).number → Has (t.attempt p a).changes x
+      → IsBased h (code p a) → t.plain x.node x.field ≢ x.old
+      → IsTrueNote h (outdated (code p a) x.node)
+  outdates_told p a x small le has based other =
+      let published : IsPublished (h.stage (code p a)) = tied.published p a x small le has in
+      (bases_tell h rule).other_number (code p a) x published based (among_op p a small published x has) (no_spare x.node)
+      (λ same. other (sym (tied.plain x.node x.field) ∙ same))
+
   pub board_tells : BoardTells b t h
   board_tells = record {
     clock = clock_told;
@@ -135,4 +146,7 @@ module _ (b : Board) (t : Past) (h : History) (rule : Rule h) (tied : IsTied b t
     stands = stands_told;
     failed = failed_told;
     ran_out = ran_out_told;
+    outdates = outdates_told;
+    was_outdated = λ x n noted. (loads_tell h rule).outdated_told n x noted.0;
+    was_locked = λ x n q noted. (loads_tell h rule).rival_told n x q noted.0;
   }

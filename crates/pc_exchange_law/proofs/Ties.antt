@@ -36,7 +36,7 @@ words_serve z b t h few rule tied = record {
   commit = λ p a s small u no_visits drawn. may_commit b t h tied p a small u s no_visits drawn;
   withdraw = may_withdraw b t h tied;
   run_out = may_end b t h tied;
-  fail = λ p a n v new small u has less. may_fail b t h tied p a small u rule n v new has less;
+  fail = λ p a n small u noted. may_fail b t h tied p a small u n noted;
 }
 
 pub successes_serve : (b : Board) (t : Past) (h : History) → Rule h → IsTied b t h → SuccessesServe b t h

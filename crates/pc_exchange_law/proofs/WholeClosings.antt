@@ -30,7 +30,7 @@ module _ (form : Form) (z : Size) where
         closed = c.0;
         past = t;
         history = h;
-        begins = k.opened;
+        begins = k.world.opened;
         run = subst (λ (u : Board). RunTells u t h) (sym c.1) run;
         exchanges = k.world.tied.exchanges;
         scripts = subst (λ (u : Board). AreScripts z.slots u t t.words) (sym c.1) k.world.scripts;

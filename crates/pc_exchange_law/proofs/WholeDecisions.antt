@@ -14,7 +14,7 @@ use Rattle.pc_words.proofs.Statuses.{packed_injective, unpacked_packed}
 use Rattle.pc_rule_law.specs.Board.{Size, Board, own_status, at_own, address, Inside}
 use Rattle.pc_rule_law.specs.Past.{Past}
 use Rattle.pc_rule_law.specs.Stages.{IsIdle, IsOpen, DecidedBelow}
-use Rattle.pc_rule_law.specs.Views.{decided_below, View, NoteHolds, IsAttempt}
+use Rattle.pc_rule_law.specs.Views.{decided_below, NoteHolds, IsAttempt}
 use Rattle.pc_rule_law.specs.Plays.{SameSeat}
 use Rattle.pc_rule_law.specs.Rule.{Own}
 use Rattle.pc_rule_law.proofs.Frames.{only_status}
@@ -33,7 +33,7 @@ use Rattle.pc_exchange_law.specs.Wholes.{Whole, WholeKept, WholeHolds}
 use Rattle.pc_exchange_law.specs.WholePlays.{WholeMine, StatusTried, after_decided, verdict_by, HasDecided, HasWithdrawn}
 use Rattle.pc_exchange_law.specs.WholeSteps.{whole_decides, whole_withdraws}
 use Rattle.pc_exchange_law.proofs.ExchangeSteps.{success_step, failure_step, withdraw_step}
-use Rattle.pc_exchange_law.proofs.WholeKeeping.{mine, own_here, known_here, whole_goes}
+use Rattle.pc_exchange_law.proofs.WholeKeeping.{mine, own_here, known_here, path_kept, whole_goes}
 use Rattle.pc_exchange_law.proofs.WholeLooks.{whole_status_looks}
 use Rattle.pc_exchange_law.proofs.WholeSteps.{WholeGoes, retold, WholeHits, WholeMisses, whole_swapped}
 use Rattle.pc_exchange_law.proofs.WorldStatuses.{is_busy}
@@ -81,12 +81,12 @@ module _ (form : Form) (z : Size) where
   decided : (id : ℕ) (x : Whole) → x.view.live ≡ true → (b : Board) (t : Past) (h : History) (late : ℕ → Bool)
       (views : List Whole) (k : WholeKept form z b t h late views) (at : get_elem? views id ≡ some x) (p : ℕ) (stage : StatusStage)
       → p < z.seats → IsOpen (b.status p).stage → (IsIdle stage → ⊥) → (IsOpen stage → ⊥) → (t' : Past) → t'.course ≡ t.course → t'.posted ≡ t.posted
-      → (h' : History) (k' : PassKnows) (then : Whole → Type 0) → h'.opening ≡ h.opening
+      → (h' : History) (k' : PassKnows) (then : Whole → Type 0)
       → Goes form z id b t t.words h late (with_status b p (at_stage b p stage)) t' t'.words h' late
       × IsKnown (with_status b p (at_stage b p stage)) t' t'.words h' late id k'
       → then (record x { view = after_decided x.view p (b.status p).number; knows = k' })
       → WholeGoes form z b views id (at_own p own_status) (packed (at_stage b p stage)) then
-  decided id x live b t h late views k at p stage lt pending busy closed t' course posted h' k' then opening step told =
+  decided id x live b t h late views k at p stage lt pending busy closed t' course posted h' k' then step told =
       let own = own_here form z b t h late views k id x at live in
       let b' : Board = with_status b p (at_stage b p stage) in
       let a : ℕ = (b.status p).number in
@@ -103,13 +103,13 @@ module _ (form : Form) (z : Size) where
         late = late;
         only = only_status b p (at_stage b p stage);
         is = ap packed here;
-        kept = whole_goes form z b t h late views k id x at live b' t' h' late y (decided_below p (a + 1) ∷ []) opening step
+        kept = whole_goes form z b t h late views k id x at live b' t' h' late y (decided_below p (a + 1) ∷ []) step
             (refl, refl, refl, refl) refl
             (subst (λ (c : ℕ → ℕ → ℕ). Own z b.install c id y.view) (sym course)
             (record { sized = own.sized; seated = own.seated; known = own.known; ahead = own.ahead; unplaced = own.unplaced }))
             (λ no. let was = (mine form z b t h late views k id x at live).tries live no in
             (posted ∙ was.0, tries_stay z.slots b b' id x.view.attempt (leaves_tries b p stage pending busy id) was.1))
-            (all_one (NoteHolds z b' t') (decided_below p (a + 1)) (over, (lt, (omega arith))));
+            (all_one (NoteHolds z b' t') (decided_below p (a + 1)) (over, (lt, (omega arith)))) (path_kept form z b t h late views k id x at live h' step.0.keeps step.0.unread);
         told = told;
       }
 
@@ -150,12 +150,12 @@ module _ (form : Form) (z : Size) where
       (hits b t h late views k at hit)
 
   -- the new status of a failure that isn't of the pass's own accord says its cause
-  fails_so : (v : View) (k : PassKnows) (p a : ℕ) (cause : Cause) → MayFail v k p a cause
+  fails_so : (k : PassKnows) (p a : ℕ) (cause : Cause) → MayFail k p a cause
       → verdict_by (stage_by cause) ≡ aborted cause
-  fails_so v k p a withdrawn may = absurd may
-  fails_so v k p a ended may = refl
-  fails_so v k p a (changed n) may = refl
-  fails_so v k p a (locked n q) may = absurd may
+  fails_so k p a withdrawn may = absurd may
+  fails_so k p a ended may = refl
+  fails_so k p a (changed n) may = refl
+  fails_so k p a (locked n q) may = absurd may
 
   success_hits : (id : ℕ) (x : Whole) (p a s : ℕ) → x.view.live ≡ true → IsAttempt z p a → MaySucceed x.view x.knows p a s
       → WholeHits form z id x (at_own p own_status) (packed (undecided_status a)) (packed (decided_status a (Succeeded s)))
@@ -178,7 +178,7 @@ module _ (form : Form) (z : Size) where
       (with_values t h'.plain h'.plain t.attempt t.words) refl refl h' (after_decision x.knows y (committed s))
       (λ u. SameSeat x.view u.view
       × DecidedAs x p (b.status p).number (committed s) (packed (undecided_status (b.status p).number)) (packed (b.status p)) u)
-      refl step ((refl, refl, refl, refl, refl), record { hit = λ _. refl; miss = λ ne. absurd (ne found) }) in
+      step ((refl, refl, refl, refl, refl), record { hit = λ _. refl; miss = λ ne. absurd (ne found) }) in
       subst at_number (ap (λ (u : Status). u.number) is) here may hit
 
   -- attempt a of pass p takes effect at the stamp s
@@ -199,14 +199,14 @@ module _ (form : Form) (z : Size) where
       }) live (inside.0, tt))
 
   failure_hits : (id : ℕ) (x : Whole) (p a : ℕ) (cause : Cause) → x.view.live ≡ true → IsAttempt z p a
-      → StageInRange (stage_by cause) → MayFail x.view x.knows p a cause
+      → StageInRange (stage_by cause) → MayFail x.knows p a cause
       → WholeHits form z id x (at_own p own_status) (packed (undecided_status a)) (packed (decided_status a (stage_by cause)))
       (λ r y. SameSeat x.view y.view × DecidedAs x p a (aborted cause) (packed (undecided_status a)) r y)
   failure_hits id x p a cause live inside in_range may b t h late views k at hit =
       let few : z.seats ≤ 32 = k.kept.few in let lt = inside.0 in let small : p < 64 = omega arith in
       let is : b.status p ≡ undecided_status a = found_undecided b t h late views k p a inside.1 hit in
       let pending : IsOpen (b.status p).stage = subst (λ (u : Status). IsOpen u.stage) (sym is) tt in
-      let at_number : ℕ → Type 0 = λ i. MayFail x.view x.knows p i cause
+      let at_number : ℕ → Type 0 = λ i. MayFail x.knows p i cause
       → packed (b.status p) ≡ packed (undecided_status i)
       → WholeGoes form z b views id (at_own p own_status) (packed (decided_status i (stage_by cause)))
       (λ y. SameSeat x.view y.view
@@ -220,12 +220,12 @@ module _ (form : Form) (z : Size) where
       (after_decision x.knows y (aborted cause))
       (λ u. SameSeat x.view u.view
       × DecidedAs x p (b.status p).number (aborted cause) (packed (undecided_status (b.status p).number)) (packed (b.status p)) u)
-      refl step ((refl, refl, refl, refl, refl), record { hit = λ _. refl; miss = λ ne. absurd (ne found) }) in
+      step ((refl, refl, refl, refl, refl), record { hit = λ _. refl; miss = λ ne. absurd (ne found) }) in
       subst at_number (ap (λ (u : Status). u.number) is) here may hit
 
   -- attempt a of pass p fails for a cause
   pub whole_fail : (slots id : ℕ) (me : WholeMine) (p a : ℕ) (cause : Cause) → me.0.view.size ≡ z → me.0.view.live ≡ true
-      → IsAttempt z p a → StageInRange (stage_by cause) → MayFail me.0.view me.0.knows p a cause
+      → IsAttempt z p a → StageInRange (stage_by cause) → MayFail me.0.knows p a cause
       → let old : ℕ = packed (undecided_status a) in let new : ℕ = packed (decided_status a (stage_by cause)) in
       Allows (WholeHolds form z) slots id me (address z (at_own p own_status)) (λ n. either (eqb n old) new n)
       (whole_decides (step slots (address z (at_own p own_status)) old new none) me)
@@ -233,7 +233,7 @@ module _ (form : Form) (z : Size) where
       (packed (undecided_status a)) (packed (decided_status a (stage_by cause)))
       (HasDecided me.0 (packed (undecided_status a)) (packed (decided_status a (stage_by cause)))) (inside.0, tt) sized
       (decided_hits id me.0 p a (stage_by cause) (aborted cause) inside.1 in_range
-      (fails_so me.0.view me.0.knows p a cause may) (failure_hits id me.0 p a cause live inside in_range may))
+      (fails_so me.0.knows p a cause may) (failure_hits id me.0 p a cause live inside in_range may))
       (decision_misses id me.0 p (packed (undecided_status a))
       (λ y. y ≡ record me.0 {
         view = after_decided me.0.view p (unpacked (packed (undecided_status a))).number;
@@ -262,7 +262,7 @@ module _ (form : Form) (z : Size) where
       (after_withdrawal x.knows y (aborted withdrawn))
       (λ u. SameSeat x.view u.view × StatusTried x id (packed (undecided_status (b.status id).number)) (packed (b.status id))
       (λ y'. y' ≡ record x { view = after_decided x.view id (b.status id).number; knows = after_withdrawal x.knows y (aborted withdrawn) }) u)
-      refl step ((refl, refl, refl, refl, refl), record { hit = λ _. refl; miss = λ ne. absurd (ne found) }) in
+      step ((refl, refl, refl, refl, refl), record { hit = λ _. refl; miss = λ ne. absurd (ne found) }) in
       subst at_seat (λ i. (sym own.seated.0 i, known.own.number i)) here hit
 
   -- the pass withdraws its own attempt

@@ -19,13 +19,14 @@ use Rattle.pc_exchange_law.specs.Changes.{with_next_stamp}
 use Rattle.pc_exchange_law.specs.ExchangeConditions.{MayDrawFor}
 use Rattle.pc_exchange_law.specs.Knowing.{after_draw, after_refusal}
 use Rattle.pc_exchange_law.specs.Passes.{PassKnows, IsKnown}
+use Rattle.pc_exchange_law.specs.Paths.{Path, IsPathOf}
 use Rattle.pc_exchange_law.specs.Ties.{code, last_stamp}
 use Rattle.pc_exchange_law.specs.Wholes.{Whole, WholeKept, WholeHolds}
 use Rattle.pc_exchange_law.specs.WholePlays.{WholeMine, Draws}
 use Rattle.pc_exchange_law.specs.WholeSteps.{whole_draws}
 use Rattle.pc_exchange_law.proofs.ClockEnds.{clock_ends}
 use Rattle.pc_exchange_law.proofs.ExchangeSteps.{draw_step, refuse_step}
-use Rattle.pc_exchange_law.proofs.WholeKeeping.{mine, own_here, known_here, whole_goes}
+use Rattle.pc_exchange_law.proofs.WholeKeeping.{mine, own_here, known_here, path_kept, whole_goes}
 use Rattle.pc_exchange_law.proofs.WholeSteps.{WholeOwes, WholeGoes, whole_allowed}
 use Rattle.pc_exchange_law.proofs.Worlds.{Goes}
 
@@ -34,18 +35,18 @@ module _ (form : Form) (z : Size) where
   next_clock : (clock : ℕ) → clock + 1 < 2 ^ 64 → suc clock ≡ (clock + 1) % 2 ^ 64
   next_clock clock small = sym (mod-eq_of_lt small ∙ (let e : clock + 1 ≡ suc clock = omega arith in e))
 
-  -- the board, the past and the view stay but for the clock, and the pass knows this
-  drawn : (id : ℕ) (x : Whole) → x.view.live ≡ true → (b : Board) (t : Past) (h : History) (late : ℕ → Bool)
+  -- the board, the past and the view stay but for the clock, and the pass knows this, and has this path
+  pub drawn : (id : ℕ) (x : Whole) → x.view.live ≡ true → (b : Board) (t : Past) (h : History) (late : ℕ → Bool)
       (views : List Whole) (k : WholeKept form z b t h late views) (at : get_elem? views id ≡ some x) (h' : History) (late' : ℕ → Bool)
-      (k' : PassKnows) (then : Whole → Type 0) → h'.opening ≡ h.opening
+      (k' : PassKnows) (p : Path) (then : Whole → Type 0)
       → Goes form z id b t t.words h late (with_next_stamp b) t t.words h' late'
       × IsKnown (with_next_stamp b) t t.words h' late' id k'
-      → then (record x { knows = k' })
+      → IsPathOf h' id p → then (record x { knows = k'; path = p })
       → WholeGoes form z b views id at_clock ((b.clock + 1) % 2 ^ 64) then
-  drawn id x live b t h late views k at h' late' k' then opening step told =
+  drawn id x live b t h late views k at h' late' k' p then step path told =
       let own = own_here form z b t h late views k id x at live in
       let b' : Board = with_next_stamp b in
-      let y : Whole = record x { knows = k' } in record {
+      let y : Whole = record x { knows = k'; path = p } in record {
         view = y;
         board = b';
         past = t;
@@ -53,13 +54,13 @@ module _ (form : Form) (z : Size) where
         late = late';
         only = only_clock b (suc b.clock);
         is = next_clock b.clock (clock_ends.fits z.seats b.clock late k.kept.few k.world.clock);
-        kept = whole_goes form z b t h late views k id x at live b' t h' late' y [] opening step (refl, refl, refl, refl) refl
+        kept = whole_goes form z b t h late views k id x at live b' t h' late' y [] step (refl, refl, refl, refl) refl
             (record { sized = own.sized; seated = own.seated; known = own.known; ahead = own.ahead; unplaced = own.unplaced })
             (λ no. let was = (mine form z b t h late views k id x at live).tries live no in (
               was.0,
               record { number = was.1.number; resting = was.1.resting; running = was.1.running; words = was.1.words },
             ))
-            (all_none (NoteHolds z b' t));
+            (all_none (NoteHolds z b' t)) path;
         told = told;
       }
 
@@ -75,19 +76,19 @@ module _ (form : Form) (z : Size) where
       ⊎_elim
       (λ early. let step = draw_step form z k.kept.few id b t t.words h late k.kept.shared k.world x.view own noted x.knows known
       p a may in
-      drawn id x live b t h late views k at (draw h (for_exchange (code p a))) step.0 (after_draw x.knows (code p a) b.clock)
-      (λ y. SameSeat x.view y.view × Draws x b.clock y at_clock) refl
+      drawn id x live b t h late views k at (draw h (for_exchange (code p a))) step.0 (after_draw x.knows (code p a) b.clock) x.path
+      (λ y. SameSeat x.view y.view × Draws x b.clock y at_clock)
       (subst (λ (s : ℕ). Goes form z id b t t.words h late (with_next_stamp b) t t.words (draw h (for_exchange (code p a))) step.0
       × IsKnown (with_next_stamp b) t t.words (draw h (for_exchange (code p a))) step.0 id (after_draw x.knows (code p a) s))
-      same step.1)
+      same step.1) (path_kept form z b t h late views k id x at live (draw h (for_exchange (code p a))) step.1.0.keeps step.1.0.unread)
       ((refl, refl, refl, refl, refl), record { drawn = λ _. refl; refused = λ late_now. absurd (omega arith) }))
       (λ late_now. let step = refuse_step form z k.kept.few id b t t.words h late k.kept.shared k.world x.view own noted x.knows
       known may.ready in
-      drawn id x live b t h late views k at (draw h (for_read id)) step.0 (after_refusal x.knows b.clock)
-      (λ y. SameSeat x.view y.view × Draws x b.clock y at_clock) refl
+      drawn id x live b t h late views k at (draw h (for_read id)) step.0 (after_refusal x.knows b.clock) x.path
+      (λ y. SameSeat x.view y.view × Draws x b.clock y at_clock)
       (subst (λ (s : ℕ). Goes form z id b t t.words h late (with_next_stamp b) t t.words (draw h (for_read id)) step.0
       × IsKnown (with_next_stamp b) t t.words (draw h (for_read id)) step.0 id (after_refusal x.knows s))
-      same step.1)
+      same step.1) (path_kept form z b t h late views k id x at live (draw h (for_read id)) step.1.0.keeps step.1.0.unread)
       ((refl, refl, refl, refl, refl), record { drawn = λ early. absurd (omega arith); refused = λ _. refl }))
       (cases_lt b.clock last_stamp)
 

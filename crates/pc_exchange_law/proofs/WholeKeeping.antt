@@ -3,7 +3,6 @@ use Rattle.std.proofs.Common.{◌≡◌, ◌≢◌, ℕ, ◌<◌, ◌≤◌, Boo
 use mathlib.Core.Option.{some}
 use lib.ListN.{get_elem?}
 use Rattle.atomic_table.proofs.Lists.{at_map}
-use Rattle.pc_model.specs.Cells.{Cells}
 use Rattle.pc_model.specs.Forms.{Form, IsSound}
 use Rattle.pc_rule_law.specs.Board.{Size, Board, descriptor_words}
 use Rattle.pc_rule_law.specs.Past.{Past, Describes}
@@ -13,12 +12,16 @@ use Rattle.pc_rule_law.specs.Rule.{Own, OwnTries, Known, Kept}
 use Rattle.pc_rule_law.proofs.Keeping.{kept_after}
 use Rattle.pc_rule_law.proofs.Lists.{each_moved, below_length}
 use Rattle.pc_protocol.specs.Histories.{History}
+use Rattle.pc_protocol.specs.Owned.{IsUnread}
+use Rattle.pc_protocol.specs.Steps.{Keeps}
 use Rattle.pc_exchange_law.specs.Attempts.{Scripts, AreScripts}
 use Rattle.pc_exchange_law.specs.ExchangeLaws.{Comes, ExchangeStepsGoOn}
 use Rattle.pc_exchange_law.specs.Passes.{PassKnows, IsKnown}
+use Rattle.pc_exchange_law.specs.Paths.{IsPathOf}
 use Rattle.pc_exchange_law.specs.Wholes.{Whole, views_of, knows_nothing, WholeKept}
 use Rattle.pc_exchange_law.proofs.AttemptNotes.{attempt_note_stays, attempt_stays}
 use Rattle.pc_exchange_law.proofs.ExchangeLaws.{comes, exchange_steps_go_on}
+use Rattle.pc_exchange_law.proofs.Paths.{path_stays}
 use Rattle.pc_exchange_law.proofs.Worlds.{Goes}
 
 -- the views of views of which one is changed
@@ -65,6 +68,13 @@ module _ (form : Form) (z : Size) (b : Board) (t : Past) (h : History) (late : �
   pub known_here : IsKnown b t t.words h late id x.knows
   known_here = k.known id x at live
 
+  pub path_here : IsPathOf h id x.path
+  path_here = k.paths id x at live
+
+  -- a step that takes no stamp away that was drawn for a read leaves the path as it is
+  pub path_kept : (h' : History) → Keeps h h' → ((j s : ℕ) → IsUnread h j s → IsUnread h' j s) → IsPathOf h' id x.path
+  path_kept h' keeps unread = path_stays h h' keeps id x.path path_here (unread id)
+
   -- from what the pass knows, each kind of step goes on
   pub steps_here : ExchangeStepsGoOn form z id b t t.words h late x.view x.knows
   steps_here = exchange_steps_go_on form z id b t t.words h late x.view x.knows k.kept.few k.kept.shared k.world own_here
@@ -75,27 +85,28 @@ module _ (form : Form) (z : Size) (b : Board) (t : Past) (h : History) (late : �
   made j y at_j = subst (λ (c : ℕ). j < c) k.kept.counted
       (below_length (views_of views) j y.view (at_map (λ (u : Whole). u.view) views j y at_j))
 
-  -- a look: the rule of installs holds with a later view, and it is so what the pass knows then
+  -- a look: the rule of installs holds with a later view, and it is so what the pass knows and has visited then
   pub whole_looked : (y : Whole) → Kept (IsSound form) z b t (set (views_of views) id y.view)
-      → IsKnown b t t.words h late id y.knows
+      → IsKnown b t t.words h late id y.knows → IsPathOf h id y.path
       → WholeKept form z b t h late (set views id y)
-  whole_looked y kept known = record {
+  whole_looked y kept known path = record {
     kept = subst (Kept (IsSound form) z b t) (sym (views_set views id y)) kept;
     world = k.world;
     known = each_moved views id y (λ j u. u.view.live ≡ true → IsKnown b t t.words h late j u.knows)
         (λ j u. u.view.live ≡ true → IsKnown b t t.words h late j u.knows) k.known (λ _. known) (λ j u _ _ was. was);
+    paths = each_moved views id y (λ j u. u.view.live ≡ true → IsPathOf h j u.path) (λ j u. u.view.live ≡ true → IsPathOf h j u.path)
+        k.paths (λ _. path) (λ j u _ _ was. was);
     unmade = k.unmade;
-    opened = k.opened;
     none_given = k.none_given;
+    lawful = k.lawful;
   }
 
   -- any other step of the pass
   pub whole_after : (b' : Board) (t' : Past) (h' : History) (late' : ℕ → Bool) (y : Whole)
       → Kept (IsSound form) z b' t' (set (views_of views) id y.view) → t'.count ≡ t.count → t'.posted ≡ t.posted
-      → h'.opening ≡ h.opening
-      → Comes form z id b t t.words h late b' t' t'.words h' late' y.knows
+      → Comes form z id b t t.words h late b' t' t'.words h' late' y.knows → IsPathOf h' id y.path
       → WholeKept form z b' t' h' late' (set views id y)
-  whole_after b' t' h' late' y kept count posted opening c = let few : z.seats ≤ 32 = k.kept.few in
+  whole_after b' t' h' late' y kept count posted c path = let few : z.seats ≤ 32 = k.kept.few in
       let room : t.count ≤ z.seats = k.kept.room in record {
         kept = subst (Kept (IsSound form) z b' t') (sym (views_set views id y)) kept;
         world = c.world;
@@ -103,24 +114,26 @@ module _ (form : Form) (z : Size) (b : Board) (t : Past) (h : History) (late : �
             (λ j u. u.view.live ≡ true → IsKnown b' t' t'.words h' late' j u.knows) k.known (λ _. c.known)
             (λ j u ne at_j was alive. known_after form z id b t t.words h late b' t' t'.words h' late' y.knows c j u.knows
             (let lt = made j u at_j in omega arith) ne (was alive));
+        paths = each_moved views id y (λ j u. u.view.live ≡ true → IsPathOf h j u.path)
+            (λ j u. u.view.live ≡ true → IsPathOf h' j u.path) k.paths (λ _. path)
+            (λ j u ne at_j was alive. path_stays h h' c.keeps j u.path (was alive) (c.unread j));
         unmade = λ j le lt. let old : t.count ≤ j = subst (λ (i : ℕ). i ≤ j) count le in
             known_after form z id b t t.words h late b' t' t'.words h' late' y.knows c j (knows_nothing z.starts.attempt)
             (omega arith) (λ e. let below = made id x at in absurd (omega arith)) (k.unmade j old lt);
-        opened = λ n f. ap (λ (u : Cells). u n f) opening ∙ k.opened n f;
         none_given = posted ∙ k.none_given;
+        lawful = k.lawful;
       }
 
   -- a step of an exchange, with its own view and these notes more
   pub whole_goes : (b' : Board) (t' : Past) (h' : History) (late' : ℕ → Bool) (y : Whole) (more : List Note)
-      → h'.opening ≡ h.opening
       → Goes form z id b t t.words h late b' t' t'.words h' late' × IsKnown b' t' t'.words h' late' id y.knows
       → (y.view.live ≡ x.view.live) × (y.view.seat ≡ x.view.seat) × (y.view.last ≡ x.view.last)
       × (y.view.rest ≡ x.view.rest)
       → y.view.notes ≡ more ++ x.view.notes → Own z b'.install t'.course id y.view
       → (y.view.posted ≡ false → (t'.posted ≡ false) × OwnTries z.slots b' id y.view.attempt)
-      → AllNotes (NoteHolds z b' t') more
+      → AllNotes (NoteHolds z b' t') more → IsPathOf h' id y.path
       → WholeKept form z b' t' h' late' (set views id y)
-  whole_goes b' t' h' late' y more opening step same notes own tries noted = whole_after b' t' h' late' y
+  whole_goes b' t' h' late' y more step same notes own tries noted path = whole_after b' t' h' late' y
       (kept_after (IsSound form) z b t (views_of views) id x.view b' t' y.view more k.kept at_view live record {
         same = same;
         notes = notes;
@@ -130,5 +143,5 @@ module _ (form : Form) (z : Size) (b : Board) (t : Past) (h : History) (late : �
         own = own;
         tries = tries;
         noted = noted;
-      }) step.0.leaves.count step.0.leaves.posted opening
-      (comes form z id b t t.words h late b' t' t'.words h' late' y.knows step)
+      }) step.0.leaves.count step.0.leaves.posted
+      (comes form z id b t t.words h late b' t' t'.words h' late' y.knows step) path

@@ -1,6 +1,6 @@
 -- Loads under the whole rule: of the clock, of a word of a descriptor, of a status, of a word of an install's
 -- descriptor, and of a word of a node.
-use Rattle.std.proofs.Common.{◌≡◌, ℕ, ◌<◌, ◌≤◌, ⊎_elim, Bool, true, false, List, refl, sym, ap, subst, arith}
+use Rattle.std.proofs.Common.{◌≡◌, ℕ, ◌<◌, ◌≤◌, ⊎_elim, Bool, true, false, List, refl, sym, ap, ◌∙◌, subst, arith}
 use Rattle.std.proofs.lemmas.Bool.{cases_lt}
 use mathlib.Core.Option.{none}
 use Rattle.atomic_table.specs.Table.{step, Allows}
@@ -21,15 +21,17 @@ use Rattle.pc_rule_law.proofs.ClockLooks.{clock_looks}
 use Rattle.pc_rule_law.proofs.DescriptorLooks.{word_looks}
 use Rattle.pc_rule_law.proofs.InstallLooks.{install_looks}
 use Rattle.pc_rule_law.proofs.StatusLooks.{status_looks}
-use Rattle.pc_protocol.specs.Histories.{History}
-use Rattle.pc_exchange_law.specs.Ties.{last_stamp}
+use Rattle.pc_protocol.specs.Histories.{withdrawn, ended, aborted, History}
+use Rattle.pc_protocol.specs.Notes.{verdict, IsTrueNote}
+use Rattle.pc_exchange_law.specs.Ties.{code, last_stamp}
 use Rattle.pc_exchange_law.specs.Knowing.{LoadsTellPasses, StatusSeen, WordSeen, after_clock}
 use Rattle.pc_exchange_law.specs.Passes.{PassKnows, IsKnown}
 use Rattle.pc_exchange_law.specs.Wholes.{Whole, views_of, WholeKept, WholeHolds}
-use Rattle.pc_exchange_law.specs.WholePlays.{WholeMine, SeesClock, SeesWord, SeesStatus, SeesInstall}
+use Rattle.pc_exchange_law.specs.WholePlays.{WholeMine, SeesClock, SeesWord, OwnVerdict, SeesStatus, SeesInstall}
 use Rattle.pc_exchange_law.specs.WholeSteps.{whole_loads_clock, whole_loads_word, whole_loads_status, whole_loads_install}
+use Rattle.pc_exchange_law.proofs.TieTelling.{board_tells}
 use Rattle.pc_exchange_law.proofs.WordsSeen.{loads_tell_passes}
-use Rattle.pc_exchange_law.proofs.WholeKeeping.{at_view, known_here, whole_looked}
+use Rattle.pc_exchange_law.proofs.WholeKeeping.{at_view, own_here, known_here, path_here, whole_looked}
 use Rattle.pc_exchange_law.proofs.WholeSteps.{WholeLooks, whole_looked_at}
 
 module _ (form : Form) (z : Size) where
@@ -55,8 +57,22 @@ module _ (form : Form) (z : Size) where
       let y : Whole = record x { view = low.0; knows = after_clock x.knows b.clock e.0 } in (
         y,
         whole_looked form z b t h late views k id x at live y low.1
-            ((tells b t h late views k id x.knows (known_here form z b t h late views k id x at live)).clock e.0 e.1),
-        (low.2.0, (low.2.1, record { noted = refl; early = e.2; late = e.3 }, refl)),
+            ((tells b t h late views k id x.knows (known_here form z b t h late views k id x at live)).clock e.0 e.1) (path_here form z b t h late views k id x at live),
+        (
+          low.2.0,
+          (
+            low.2.1,
+            record {
+              noted = refl;
+              early = e.2;
+              late = e.3;
+              ended = λ i has. (board_tells b t h k.world.rule k.world.tied).ran_out i
+                  ((known_here form z b t h late views k id x at live).told (verdict i (aborted ended)) has);
+            },
+            refl,
+            refl,
+          ),
+        ),
       )
 
   pub whole_load_clock : (slots id : ℕ) (me : WholeMine) → me.0.view.size ≡ z → me.0.view.live ≡ true
@@ -73,7 +89,7 @@ module _ (form : Form) (z : Size) where
       (at_view form z b t h late views k id x at live) in
       let learnt = (tells b t h late views k id x.knows (known_here form z b t h late views k id x at live)).descriptor p place in
       let y : Whole = record x { view = low.0; knows = learnt.0 } in
-      (y, whole_looked form z b t h late views k id x at live y low.1 learnt.2, (low.2.0, (low.2.1, learnt.1, refl)))
+      (y, whole_looked form z b t h late views k id x at live y low.1 learnt.2 (path_here form z b t h late views k id x at live), (low.2.0, (low.2.1, learnt.1, refl, refl)))
 
   pub whole_load_word : (slots id : ℕ) (me : WholeMine) (p place : ℕ) → me.0.view.size ≡ z → me.0.view.live ≡ true
       → Inside z (at_own p (own_word place))
@@ -81,6 +97,15 @@ module _ (form : Form) (z : Size) where
       (whole_loads_word (step slots (address z (at_own p (own_word place))) 0 0 none) me)
   whole_load_word slots id me p place sized live in_p = whole_looked_at form z slots id me (at_own p (own_word place))
       (SeesWord me.0) in_p sized (whole_word_looks id me.0 p place live in_p)
+
+  -- a verdict on the own attempt isn't that it was withdrawn, where the pass didn't do so
+  own_verdict : (b : Board) (t : Past) (h : History) (late : ℕ → Bool) (id : ℕ) (x y : Whole) → x.view.seat ≡ id
+      → IsKnown b t t.words h late id x.knows → IsKnown b t t.words h late id y.knows
+      → (p : ℕ) (s : Status) → OwnVerdict x p s y
+  own_verdict b t h late id x y seated before after p s mine kept number st has withdrew_it =
+      let told : IsTrueNote h (verdict (code p s.number) st) = after.told (verdict (code p s.number) st) has in
+      let here : code p s.number ≡ code id x.knows.own.number = λ i. code ((mine ∙ seated) i) (number i) in
+      before.own.kept kept (subst (λ (i : ℕ). h.stage i ≡ aborted withdrawn) here (told.0 ∙ withdrew_it))
 
   pub whole_status_looks : (id : ℕ) (x : Whole) (p : ℕ) → x.view.live ≡ true → Inside z (at_own p own_status)
       → WholeLooks form z id x (at_own p own_status)
@@ -90,10 +115,10 @@ module _ (form : Form) (z : Size) where
       let low = status_looks (IsSound form) z id x.view p live in_p b t (views_of views) k.kept
       (at_view form z b t h late views k id x at live) in
       let learnt = (tells b t h late views k id x.knows (known_here form z b t h late views k id x at live)).status p (omega arith) in
-      let y : Whole = record { view = low.0; knows = learnt.0; aim = (p, (b.status p).number) } in
+      let y : Whole = record { view = low.0; knows = learnt.0; aim = (p, (b.status p).number); path = x.path } in
       let same : unpacked (packed (b.status p)) ≡ b.status p = unpacked_packed (b.status p) (k.kept.shared.statuses p) in (
         y,
-        whole_looked form z b t h late views k id x at live y low.1 learnt.2,
+        whole_looked form z b t h late views k id x at live y low.1 learnt.2 (path_here form z b t h late views k id x at live),
         (
           low.2.0,
           (
@@ -101,6 +126,9 @@ module _ (form : Form) (z : Size) where
             low.2.1.1,
             subst (λ (u : Status). StatusSeen x.knows p u learnt.0) (sym same) learnt.1,
             ap (λ (u : Status). (p, u.number)) (sym same),
+            own_verdict b t h late id x y (own_here form z b t h late views k id x at live).seated.0
+                (known_here form z b t h late views k id x at live) learnt.2 p (unpacked (packed (b.status p))),
+            refl,
           ),
         ),
       )
@@ -121,8 +149,8 @@ module _ (form : Form) (z : Size) where
       (at_view form z b t h late views k id x at live) in
       let y : Whole = record x { view = low.0 } in (
         y,
-        whole_looked form z b t h late views k id x at live y low.1 (known_here form z b t h late views k id x at live),
-        (low.2.0, (low.2.1, refl, refl)),
+        whole_looked form z b t h late views k id x at live y low.1 (known_here form z b t h late views k id x at live) (path_here form z b t h late views k id x at live),
+        (low.2.0, (low.2.1, refl, refl, refl)),
       )
 
   pub whole_load_install : (slots id : ℕ) (me : WholeMine) (q place : ℕ) → me.0.view.size ≡ z → me.0.view.live ≡ true

@@ -28,12 +28,13 @@ use Rattle.pc_exchange_law.specs.ExchangeConditions.{MayTakeReference}
 use Rattle.pc_exchange_law.specs.Knowing.{WordSeen}
 use Rattle.pc_exchange_law.specs.Ties.{code}
 use Rattle.pc_exchange_law.specs.Wholes.{Whole, WholeHolds}
-use Rattle.pc_exchange_law.specs.WholePlays.{WholeMine, CellSeen, ReferenceTaken, TookReference}
+use Rattle.pc_exchange_law.specs.WholePlays.{WholeMine, IsFoundCalm, CellSeen, ReferenceTaken, TookReference}
 use Rattle.pc_exchange_law.specs.WholeSteps.{whole_takes_reference}
+use Rattle.pc_exchange_law.proofs.Calms.{calms_serve}
 use Rattle.pc_exchange_law.proofs.ExchangeSteps.{take_step}
 use Rattle.pc_exchange_law.proofs.Knowing.{decided_on_board}
-use Rattle.pc_exchange_law.proofs.WholeCells.{whole_cell_looks}
-use Rattle.pc_exchange_law.proofs.WholeKeeping.{mine, own_here, known_here, whole_goes}
+use Rattle.pc_exchange_law.proofs.WholeCells.{found_calm, clean_note, cell_looks_on}
+use Rattle.pc_exchange_law.proofs.WholeKeeping.{mine, own_here, known_here, path_here, path_kept, whole_goes}
 use Rattle.pc_exchange_law.proofs.WholeLooks.{plain_there}
 use Rattle.pc_exchange_law.proofs.WholeSteps.{WholeHits, WholeMisses, whole_swapped}
 use Rattle.pc_exchange_law.proofs.WordsSeen.{loads_tell_passes}
@@ -43,6 +44,12 @@ never_missed : (x : Whole) (n : ℕ) (f : Field) (old r : ℕ) (y : Whole) → r
 never_missed x n f old r y hit ne = absurd (ne hit)
 
 module _ (form : Form) (z : Size) where
+  -- the word of a reference tells the attempt
+  one_reference : (p a q e : ℕ) → IsAttempt z p a → z.seats ≤ 32 → kind (raw (Exchange p a)) ≡ Exchange q e → (p ≡ q) × (a ≡ e)
+  one_reference p a q e attempt few is = let lt = attempt.0 in
+      let one : Exchange p a ≡ Exchange q e = sym (kind_raw (Exchange p a) ((let below : p < 256 = omega arith in below), attempt.1)) ∙ is in
+      (seat_of p a q e one, number_of p a q e one)
+
   reference_hits : (id : ℕ) (x : Whole) (n : ℕ) (f : Field) (p a v : ℕ) → x.view.live ≡ true → IsAttempt z p a
       → MayTakeReference x.view x.knows p a n f v → Inside z (at_cell n f)
       → WholeHits form z id x (at_cell n f) (raw (Exchange p a)) (raw (Plain v))
@@ -76,23 +83,22 @@ module _ (form : Form) (z : Size) where
         late = late;
         only = only_cell b n f (Plain v);
         is = ap raw here;
-        kept = whole_goes form z b t h late views k id x at live b' t h' late y more refl (step.0, learnt.2) (refl, refl, refl, refl) refl
+        kept = whole_goes form z b t h late views k id x at live b' t h' late y more (step.0, learnt.2) (refl, refl, refl, refl) refl
             (record { sized = own.sized; seated = own.seated; known = own.known; ahead = own.ahead; unplaced = own.unplaced })
             (λ no. let was = (mine form z b t h late views k id x at live).tries live no in (
               was.0,
               record { number = was.1.number; resting = was.1.resting; running = was.1.running; words = was.1.words },
             ))
-            good;
+            good (path_kept form z b t h late views k id x at live h' step.0.keeps step.0.unread);
         told = (
           (refl, refl, refl, refl, refl),
           record {
             word = raw_is_word (b.cell n f) (s.ranges n f);
             later = later_more x.view more;
             aim = refl;
-            cleaned = λ _ q e is_it. let one : Exchange p a ≡ Exchange q e = sym (kind_raw (Exchange p a)
-                ((let below : p < 256 = omega arith in below), attempt.1)) ∙ is_it in
-                subst (λ (i : ℕ × ℕ). Has y.view.notes (clean i.0 i.1 n f))
-                (λ j. (seat_of p a q e one j, number_of p a q e one j))
+            path = refl;
+            cleaned = λ _ q e is_it. let one = one_reference p a q e attempt few is_it in
+                subst (λ (i : ℕ × ℕ). Has y.view.notes (clean i.0 i.1 n f)) (λ j. (one.0 j, one.1 j))
                 (has_first (clean p a n f) (found n f (Plain v) ++ x.view.notes));
             becomes = λ _ m has. (
               more,
@@ -101,16 +107,28 @@ module _ (form : Form) (z : Size) where
             );
             learnt = λ _. subst (λ (w : WordKind). WordSeen x.knows n f w learnt.0) (here ∙ sym back) learnt.1;
             miss = never_missed x n f (raw (Exchange p a)) (raw (b.cell n f)) y hit;
+            missed_clean = λ ne. absurd (ne hit);
           },
         );
       }
 
-  reference_misses : (id : ℕ) (x : Whole) (n : ℕ) (f : Field) (old new : ℕ) → x.view.live ≡ true
-      → Inside z (at_cell n f)
-      → WholeMisses form z id x (at_cell n f) old
-      (λ r y. SameSeat x.view y.view × ReferenceTaken x n f old new r y)
-  reference_misses id x n f old new live in_p b t h late views k at miss =
-      let g = whole_cell_looks form z id x n f live in_p b t h late views k at in (
+  -- where the step misses, it is a look; and the word is noted to be clean of the attempt, where it is
+  reference_misses : (id : ℕ) (x : Whole) (n : ℕ) (f : Field) (p a v : ℕ) → x.view.live ≡ true → IsAttempt z p a
+      → MayTakeReference x.view x.knows p a n f v → Inside z (at_cell n f)
+      → WholeMisses form z id x (at_cell n f) (raw (Exchange p a))
+      (λ r y. SameSeat x.view y.view × ReferenceTaken x n f (raw (Exchange p a)) (raw (Plain v)) r y)
+  reference_misses id x n f p a v live attempt may in_p b t h late views k at miss =
+      let few : z.seats ≤ 32 = k.kept.few in let lt = attempt.0 in let small : p < 64 = omega arith in
+      let known = known_here form z b t h late views k id x at live in
+      let decided : DecidedBelow b.status p (a + 1) = decided_on_board b t h k.world.tied p a may.stage small
+      (known.told (verdict (code p a) may.stage) may.decided) in
+      let cleans = clean_note form z b t p a n f decided attempt in_p in
+      let g = cell_looks_on form z id x n f live in_p b t h late views k at cleans.0 cleans.1 x.path (path_here form z b t h late views k id x at live) in
+      let same : kind (raw (b.cell n f)) ≡ b.cell n f = kind_raw (b.cell n f) (k.kept.shared.ranges n f) in
+      let other : b.cell n f ≢ Exchange p a = λ e. miss (ap raw e) in
+      let truly : IsFoundCalm x.knows p a n f (kind (raw (b.cell n f))) → Has g.0.view.notes (clean p a n f) = λ calmed.
+      let calm_now = found_calm b t h late id x.knows k.world.tied known p a n f small (subst (IsFoundCalm x.knows p a n f) same calmed) in
+      g.2.2 (clean p a n f) (cleans.2 ((calms_serve b t t.words p a n f).clean calm_now other)) in (
         g.0,
         g.1,
         (
@@ -119,10 +137,15 @@ module _ (form : Form) (z : Size) where
             word = g.2.1.word;
             later = g.2.1.later;
             aim = g.2.1.aim;
+            path = g.2.3;
             cleaned = λ e. absurd (miss e);
             becomes = λ e. absurd (miss e);
             learnt = λ e. absurd (miss e);
             miss = λ _. g.2.1;
+            missed_clean = λ _ q e is_it calmed. let one = one_reference p a q e attempt few is_it in
+                subst (λ (i : ℕ × ℕ). Has g.0.view.notes (clean i.0 i.1 n f)) (λ j. (one.0 j, one.1 j))
+                (truly (subst (λ (i : ℕ × ℕ). IsFoundCalm x.knows i.0 i.1 n f (kind (raw (b.cell n f))))
+                (λ j. (sym one.0 j, sym one.1 j)) calmed));
           },
         ),
       )
@@ -136,4 +159,4 @@ module _ (form : Form) (z : Size) where
   whole_take_reference slots id me n f p a v sized live attempt may in_p = whole_swapped form z slots id me (at_cell n f)
       (raw (Exchange p a)) (raw (Plain v)) (TookReference me.0 (raw (Exchange p a)) (raw (Plain v))) in_p sized
       (reference_hits id me.0 n f p a v live attempt may in_p)
-      (reference_misses id me.0 n f (raw (Exchange p a)) (raw (Plain v)) live in_p)
+      (reference_misses id me.0 n f p a v live attempt may in_p)

@@ -20,9 +20,11 @@ use Rattle.pc_protocol.specs.Notes.{IsTrueNote}
 use Rattle.pc_exchange_law.specs.Attempts.{IsTrueAttemptNote}
 use Rattle.pc_exchange_law.specs.ExchangeLaws.{Comes}
 use Rattle.pc_exchange_law.specs.Passes.{PassKnows, IsKnown}
+use Rattle.pc_exchange_law.specs.Paths.{IsPathOf}
 use Rattle.pc_exchange_law.specs.WholeSeats.{whole_maker, whole_made, whole_joined, whole_spent}
 use Rattle.pc_exchange_law.specs.Wholes.{Whole, views_of, knows_nothing, WholeKept, WholeHolds}
 use Rattle.pc_exchange_law.proofs.Passes.{made_known}
+use Rattle.pc_exchange_law.proofs.Paths.{empty_path}
 use Rattle.pc_exchange_law.proofs.WholeKeeping.{views_set, views_more, known_after, at_view, mine, own_here, steps_here}
 
 module _ (form : Form) (z : Size) (b : Board) (t : Past) (h : History) (late : ℕ → Bool) (views : List Whole)
@@ -73,10 +75,14 @@ module _ (form : Form) (z : Size) (b : Board) (t : Past) (h : History) (late : �
         world = c.world;
         known = each_snoc (set views id (whole_maker x)) (whole_made x) P changed
             (subst (λ (n : ℕ). P n (whole_made x)) (sym long) made);
+        paths = each_snoc (set views id (whole_maker x)) (whole_made x) (λ j u. u.view.live ≡ true → IsPathOf h j u.path)
+            (each_moved views id (whole_maker x) (λ j u. u.view.live ≡ true → IsPathOf h j u.path)
+            (λ j u. u.view.live ≡ true → IsPathOf h j u.path) k.paths (λ _. k.paths id x at live) (λ j u _ _ was. was))
+            (λ _. empty_path h (length (set views id (whole_maker x))) true);
         unmade = λ j le lt. still j (knows_nothing z.starts.attempt) (let some : z.seats ≤ 32 = few in omega arith)
             (λ e. absurd (omega arith)) (k.unmade j (omega arith) lt);
-        opened = k.opened;
         none_given = k.none_given;
+        lawful = k.lawful;
       }
 
   pub whole_join_kept : (other : ℕ) (y : Whole) → y.view.live ≡ true → x.view.rest ≡ y.view.seat + 1 → IsFree y.view
@@ -96,6 +102,7 @@ module _ (form : Form) (z : Size) (b : Board) (t : Past) (h : History) (late : �
       let same : views_of (set (set views id u) other whole_spent) ≡ set (set (views_of views) id (joined_by x.view y.view)) other spent_view =
       views_set (set views id u) other whole_spent ∙ ap (λ (l : List View). set l other spent_view) (views_set views id u) in
       let P : ℕ → Whole → Type 0 = λ j w. w.view.live ≡ true → IsKnown b t' t'.words h late j w.knows in
+      let Q : ℕ → Whole → Type 0 = λ j w. w.view.live ≡ true → IsPathOf h j w.path in
       let mine_below : id < t.count = subst (λ (n : ℕ). id < n) (sym (length-map views (λ (w : Whole). w.view)) ∙ k.kept.counted) (below_length views id x at) in
       let enough : t.count ≤ z.seats = k.kept.room in
       let still : (j : ℕ) (w : PassKnows) → j < 64 → j ≢ id → IsKnown b t t.words h late j w → IsKnown b t' t'.words h late j w =
@@ -120,10 +127,13 @@ module _ (form : Form) (z : Size) (b : Board) (t : Past) (h : History) (late : �
         kept = subst (Kept (IsSound form) z b t') (sym same) low;
         world = c.world;
         known = each_moved (set views id u) other whole_spent P P first (λ no. absurd (cc)) (λ j w _ _ was. was);
+        paths = each_moved (set views id u) other whole_spent Q Q
+            (each_moved views id u Q Q k.paths (λ _. k.paths id x at live) (λ j w _ _ was. was)) (λ no. absurd (cc))
+            (λ j w _ _ was. was);
         unmade = λ j le lt. still j (knows_nothing z.starts.attempt) (let some : z.seats ≤ 32 = few in omega arith)
             (λ e. absurd (omega arith)) (k.unmade j le lt);
-        opened = k.opened;
         none_given = k.none_given;
+        lawful = k.lawful;
       }
 
 module _ (form : Form) (z : Size) where

@@ -33,7 +33,7 @@ use Rattle.pc_exchange_law.specs.Wholes.{Whole, views_of, WholeHolds}
 use Rattle.pc_exchange_law.specs.WholePlays.{WholeMine, StoredInstall, StoredWord, HasPublished, after_clear, HasCleared}
 use Rattle.pc_exchange_law.specs.WholeSteps.{whole_stores_install, whole_stores_word, whole_publishes, whole_clears}
 use Rattle.pc_exchange_law.proofs.ExchangeSteps.{store_step, publish_step, clear_step}
-use Rattle.pc_exchange_law.proofs.WholeKeeping.{at_view, mine, own_here, known_here, steps_here, whole_after, whole_goes}
+use Rattle.pc_exchange_law.proofs.WholeKeeping.{at_view, mine, own_here, known_here, path_kept, steps_here, whole_after, whole_goes}
 use Rattle.pc_exchange_law.proofs.WholeSteps.{WholeOwes, whole_allowed}
 
 -- the words of a status that was stored, at the own seat
@@ -67,7 +67,7 @@ module _ (form : Form) (z : Size) where
         only = g.only;
         is = g.is;
         kept = whole_after form z b t h late views k id x at live g.board g.past h late y g.kept
-            (ap (λ (u : Past). u.count) g.happens.1) (ap (λ (u : Past). u.posted) g.happens.1) refl comes;
+            (ap (λ (u : Past). u.count) g.happens.1) (ap (λ (u : Past). u.posted) g.happens.1) comes (path_kept form z b t h late views k id x at live h comes.keeps comes.unread);
         told = (g.told.0, λ e. ap (λ (w : View). record x { view = w }) (g.told.1 e));
       }
 
@@ -96,7 +96,7 @@ module _ (form : Form) (z : Size) where
         late = late;
         only = subst (λ (i : ℕ). Only (at_own i (own_word place)) b b') (sym own.seated.0) (only_word b id place r);
         is = ap (λ (i : ℕ). put2 b.word id place r i place) own.seated.0 ∙ put2-here b.word id place r;
-        kept = whole_goes form z b t h late views k id x at live b' t h late y [] refl step (refl, refl, refl, refl) refl
+        kept = whole_goes form z b t h late views k id x at live b' t h late y [] step (refl, refl, refl, refl) refl
             (record { sized = own.sized; seated = own.seated; known = own.known; ahead = own.ahead; unplaced = own.unplaced })
             (λ no. let was = (mine form z b t h late views k id x at live).tries live no in (
               was.0,
@@ -107,7 +107,7 @@ module _ (form : Form) (z : Size) where
                 words = word_stored z.slots b id x.view.attempt.words was.1.words place r;
               },
             ))
-            (all_none (NoteHolds z b' t));
+            (all_none (NoteHolds z b' t)) (path_kept form z b t h late views k id x at live h step.0.keeps step.0.unread);
         told = ((refl, refl, refl, refl, refl), λ _. refl);
       }
 
@@ -151,7 +151,7 @@ module _ (form : Form) (z : Size) where
         only = subst (λ (i : ℕ). Only (at_own i own_status) b b') (sym own.seated.0) (only_status b id s);
         is = stored_status b id x.view.seat s own.seated.0
             ∙ ap (λ (i : ℕ). packed (record { number = i + 1; stage = Undecided })) same;
-        kept = whole_goes form z b t h late views k id x at live b' t' h' late y [] refl step (refl, refl, refl, refl) refl
+        kept = whole_goes form z b t h late views k id x at live b' t' h' late y [] step (refl, refl, refl, refl) refl
             (record { sized = own.sized; seated = own.seated; known = own.known; ahead = own.ahead; unplaced = own.unplaced })
             (λ no. let was = (mine form z b t h late views k id x at live).tries live no in (
               was.0,
@@ -162,7 +162,7 @@ module _ (form : Form) (z : Size) where
                 words = was.1.words;
               },
             ))
-            (all_none (NoteHolds z b' t'));
+            (all_none (NoteHolds z b' t')) (path_kept form z b t h late views k id x at live h' step.0.keeps step.0.unread);
         told = (
           (refl, refl, refl, refl, refl),
           λ _. (
@@ -207,7 +207,7 @@ module _ (form : Form) (z : Size) where
         only = subst (λ (i : ℕ). Only (at_own i own_status) b b') (sym own.seated.0) (only_status b id s);
         is = stored_status b id x.view.seat s own.seated.0
             ∙ ap (λ (i : ℕ). packed (record { number = i; stage = Idle })) same;
-        kept = whole_goes form z b t h late views k id x at live b' t h late y [] refl step (refl, refl, refl, refl) refl
+        kept = whole_goes form z b t h late views k id x at live b' t h late y [] step (refl, refl, refl, refl) refl
             (record { sized = own.sized; seated = own.seated; known = own.known; ahead = own.ahead; unplaced = own.unplaced })
             (λ no. let was = (mine form z b t h late views k id x at live).tries live no in (
               was.0,
@@ -218,7 +218,7 @@ module _ (form : Form) (z : Size) where
                 words = was.1.words;
               },
             ))
-            (all_none (NoteHolds z b' t));
+            (all_none (NoteHolds z b' t)) (path_kept form z b t h late views k id x at live h step.0.keeps step.0.unread);
         told = ((refl, refl, refl, refl, refl), λ _. refl);
       }
 

@@ -1,5 +1,5 @@
 -- What a pass knows after it found a word of a node is so.
-use Rattle.std.proofs.Common.{◌≡◌, ℕ, ◌+◌, ◌<◌, ◌≤◌, ⊎_elim, Bool, ◌==◌, List, [], ◌∷◌, ◌++◌, refl, sym, subst}
+use Rattle.std.proofs.Common.{◌≡◌, ℕ, ◌+◌, ◌<◌, ◌≤◌, ⊎_elim, Bool, ◌==◌, List, [], ◌∷◌, ◌++◌, refl, sym, ◌∙◌, subst}
 use Rattle.std.proofs.lemmas.Bool.{cases_lt}
 use Rattle.pc_model.specs.declared.cell.Field.{Field}
 use Rattle.pc_model.specs.declared.cell.Field.TheVariants.{Version, Key, Value, Left, Right, Parent, Height, Spare}
@@ -11,13 +11,13 @@ use Rattle.pc_rule_law.specs.Stages.{DecidedBelow}
 use Rattle.pc_rule_law.proofs.Lists.{has_first, has_left, has_right, all_both, all_none, all_one}
 use Rattle.pc_protocol.specs.Histories.{Stage, History, IsPublished}
 use Rattle.pc_protocol.specs.Rules.{Rule}
-use Rattle.pc_protocol.specs.Notes.{Note, clock_was, visited, read_word, saw, looked, published, held, drew, verdict, in_use, rival, in_run, cleared, IsTrueNote}
+use Rattle.pc_protocol.specs.Notes.{Note, clock_was, visited, read_word, saw, looked, published, held, drew, verdict, in_use, rival, in_run, cleared, outdated, IsTrueNote}
 use Rattle.pc_protocol.proofs.Stages.{absent_not_published}
 use Rattle.pc_exchange_law.specs.Ties.{code, seat_in, number_in, IsSeated, IsTied}
 use Rattle.pc_exchange_law.specs.Attempts.{Scripts, AreScripts, AttemptNote, came_to, calm, calm_but, IsTrueAttemptNote}
 use Rattle.pc_exchange_law.specs.ClockEnds.{ClockIsBounded}
 use Rattle.pc_exchange_law.specs.Passes.{PassKnows, IsKnown}
-use Rattle.pc_exchange_law.specs.Knowing.{with_more, WordSeen, LoadsTellPasses}
+use Rattle.pc_exchange_law.specs.Knowing.{with_more, Learns, WordSeen, LoadsTellPasses}
 use Rattle.pc_exchange_law.proofs.Calms.{calms_serve}
 use Rattle.pc_exchange_law.proofs.Codes.{of_code, number_of_code, seat_is_small, code_of}
 use Rattle.pc_exchange_law.proofs.Knowing.{decided_on_board, more_known, more_learns, descriptor_loaded, status_seen, clock_seen}
@@ -64,6 +64,7 @@ module _ (slots : ℕ) (b : Board) (t : Past) (w : Scripts) (h : History) (late 
   calms_of c (rival x m y) = []
   calms_of c (in_run x e) = []
   calms_of c (cleared x) = []
+  calms_of c (outdated x m) = []
 
   calms_true : (o : Note) → IsTrueNote h o → (m : AttemptNote) → Has (calms_of (b.cell n f) o) m
       → IsTrueAttemptNote b t w m
@@ -83,6 +84,7 @@ module _ (slots : ℕ) (b : Board) (t : Past) (w : Scripts) (h : History) (late 
   calms_true (rival x m y) is = all_none (IsTrueAttemptNote b t w)
   calms_true (in_run x e) is = all_none (IsTrueAttemptNote b t w)
   calms_true (cleared x) is = all_none (IsTrueAttemptNote b t w)
+  calms_true (outdated x m) is = all_none (IsTrueAttemptNote b t w)
 
   -- what is noted for a verdict on an attempt
   has_calm : (c : WordKind) (p a : ℕ) (st : Stage) → p < 64 → Has k.told (verdict (code p a) st)
@@ -142,6 +144,7 @@ module _ (slots : ℕ) (b : Board) (t : Past) (w : Scripts) (h : History) (late 
   reads_by x (rival y m u) = []
   reads_by x (in_run y e) = []
   reads_by x (cleared y) = []
+  reads_by x (outdated y m) = []
 
   reads_true : (x : ℕ) → t.plain n f ≡ x → (o : Note) → IsTrueNote h o → (m : Note) → Has (reads_by x o) m
       → IsTrueNote h m
@@ -161,6 +164,7 @@ module _ (slots : ℕ) (b : Board) (t : Past) (w : Scripts) (h : History) (late 
   reads_true x is (rival y m u) o = all_none (IsTrueNote h)
   reads_true x is (in_run y e) o = all_none (IsTrueNote h)
   reads_true x is (cleared y) o = all_none (IsTrueNote h)
+  reads_true x is (outdated y m) o = all_none (IsTrueNote h)
 
   told_by : WordKind → List Note
   told_by (Plain x) = version_by f x ++ learnt (reads_by x) k.told
@@ -224,6 +228,25 @@ module _ (slots : ℕ) (b : Board) (t : Past) (w : Scripts) (h : History) (late 
             (all_learnt (IsTrueAttemptNote b t w) (calms_of c) k.told (λ o has. calms_true o (known.told o has))))
             (told_true c refl),
       )
+
+-- what was found is known still to a pass that has learnt more
+pub seen_still : (k : PassKnows) (n : ℕ) (f : Field) (c : WordKind) (k' k2 : PassKnows) → WordSeen k n f c k' → Learns k' k2
+    → WordSeen k n f c k2
+seen_still k n f c k' k2 seen more = record {
+  learns = record {
+    own = more.own ∙ seen.learns.own;
+    ready = more.ready ∙ seen.learns.ready;
+    noted = λ m has. more.noted m (seen.learns.noted m has);
+    told = λ m has. more.told m (seen.learns.told m has);
+  };
+  came = λ p a is. more.noted (came_to p a) (seen.came p a is);
+  holds = λ p a is. more.told (held (code p a) n f) (seen.holds p a is);
+  version = λ x field is. let there = seen.version x field is in (there.0, more.told (visited n x there.0) there.1);
+  number = λ x v was is has. let there = seen.number x v was is has in
+      (there.0, more.told (read_word n v f x there.0) there.1);
+  reference = λ p a q e st small is has. more.noted (calm p a n f) (seen.reference p a q e st small is has);
+  install = λ p a q i st small is has. more.noted (calm_but p a n f q i) (seen.install p a q i st small is has);
+}
 
 pub loads_tell_passes : (slots seats : ℕ) (b : Board) (t : Past) (w : Scripts) (h : History) (late : ℕ → Bool) (id : ℕ)
     (k : PassKnows) → AreScripts slots b t w → Rule h → IsTied b t h → ClockIsBounded seats b.clock late

@@ -1,12 +1,14 @@
 -- The law of the steps of an exchange on a worked board: it opens, its first pass reads the clock and stores its
 -- descriptor, and publishes an exchange that raises a version. What comes of that is in WorkedSteps.
-use Rattle.std.proofs.Common.{◌≡◌, ℕ, zero, suc, ◌+◌, ◌*◌, ◌^◌, ◌<◌, ◌≤◌, inl, ⊎_elim, Bool, true, false, [], ◌∷◌, refl, sym, subst, arith}
+use Rattle.std.proofs.Common.{◌≡◌, ℕ, zero, suc, ◌+◌, ◌*◌, ◌^◌, ◌<◌, ◌≤◌, inl, ⊎_elim, Bool, true, false, ◌==◌, if◌then◌else◌, [], ◌∷◌, refl, sym, subst, arith}
 use mathlib.Core.Option.{some, some-injective, some-ne-none}
 use lib.ListN.{get_elem?}
-use Rattle.pc_model.specs.declared.cell.Field.TheVariants.{Version}
+use Rattle.pc_model.specs.declared.cell.Field.{Field}
+use Rattle.pc_model.specs.declared.cell.Field.TheVariants.{Version, Key, Value, Left, Right, Parent, Height, Spare}
 use Rattle.pc_model.specs.Cells.{Cells}
 use Rattle.pc_model.specs.Exchanges.{Changed}
 use Rattle.pc_model.specs.Forms.{Form, IsSound, Fits}
+use Rattle.pc_model.specs.Linked.{opening_cells}
 use Rattle.pc_words.specs.declared.status.Stage.TheVariants.{Undecided}
 use Rattle.pc_history.specs.Footprints.{RaisesVersionOf}
 use Rattle.pc_rule_law.specs.Board.{Size, Board, place_number, put2}
@@ -19,6 +21,7 @@ use Rattle.pc_rule_law.proofs.Lists.{all_one, all_none, none_has}
 use Rattle.pc_rule_law.proofs.Openings.{may_open}
 use Rattle.pc_rule_law.proofs.Seats.{opens}
 use Rattle.pc_protocol.specs.Histories.{History}
+use Rattle.pc_protocol.specs.Seeing.{ChangesVersion}
 use Rattle.pc_protocol.specs.Steps.{publish}
 use Rattle.pc_exchange_law.specs.Ties.{exchange_of}
 use Rattle.pc_exchange_law.specs.Changes.{with_status, with_values, RaisesNodes}
@@ -29,6 +32,7 @@ use Rattle.pc_exchange_law.specs.Passes.{PassKnows, IsKnown}
 use Rattle.pc_exchange_law.specs.Knowing.{after_clock, after_own_store, after_publication}
 use Rattle.pc_exchange_law.specs.Wholes.{knows_nothing}
 use Rattle.pc_exchange_law.specs.Worlds.{World}
+use Rattle.pc_exchange_law.specs.ExchangeConditions.{KnowsOld, was_opened, KnowsBasis}
 use Rattle.pc_exchange_law.specs.ExchangeLaws.{Comes, ExchangeStepsGoOn}
 use Rattle.pc_exchange_law.proofs.ExchangeLaws.{exchange_steps_go_on}
 use Rattle.pc_exchange_law.proofs.Passes.{world_opens, known_at_opening}
@@ -41,8 +45,22 @@ any_form = record { sound = λ slots c ps. Unit {0}; in_debt = λ slots c k. ⊥
 abbrev pub two : Size
 two = record { seats = 2; slots = 1; starts = record { attempt = 3; install = 0; stamp = 5; epoch = 1; version = 0 } }
 
-abbrev pub zeros : Cells
-zeros n f = 0
+abbrev pub cells : Cells
+cells = opening_cells 0
+
+one_of : (c : Bool) (x y : ℕ) → x < 2 ^ 62 → y < 2 ^ 62 → (if c then x else y) < 2 ^ 62
+one_of true x y fits_x fits_y = fits_x
+one_of false x y fits_x fits_y = fits_y
+
+small_cells : (n : ℕ) (f : Field) → cells n f < 2 ^ 62
+small_cells n Version = one_of (n == 1) 0 1 (omega arith) (omega arith)
+small_cells n Key = one_of (n == 1) 4611686018427387903 0 (omega arith) (omega arith)
+small_cells n Value = omega arith
+small_cells n Left = omega arith
+small_cells n Right = omega arith
+small_cells n Parent = omega arith
+small_cells n Height = omega arith
+small_cells n Spare = omega arith
 
 abbrev pub raise : Changed
 raise = change 1 Version 0 2
@@ -84,11 +102,11 @@ empty_formed = record {
   apart = λ i j x y at. absurd (some-ne-none x (sym at));
 }
 
-pub opening : MayOpen (IsSound any_form) two zeros false []
+pub opening : MayOpen (IsSound any_form) two cells false []
 opening = record {
   seats = (omega arith, omega arith);
   sound_cells = ([], tt);
-  small = λ n f. omega arith;
+  small = small_cells;
   attempt = omega arith;
   few = omega arith;
   none = λ _. refl;
@@ -96,13 +114,13 @@ opening = record {
 }
 
 abbrev pub b0 : Board
-b0 = opening_board two zeros []
+b0 = opening_board two cells []
 
 abbrev pub t0 : Past
-t0 = opening_past zeros (opening_attempt []) (opening_words []) false
+t0 = opening_past cells (opening_attempt []) (opening_words []) false
 
 abbrev pub h0 : History
-h0 = opening_history zeros 5
+h0 = opening_history cells 5
 
 abbrev pub none_late : ℕ → Bool
 none_late j = false
@@ -111,21 +129,21 @@ abbrev pub v0 : View
 v0 = new_view two 0 false []
 
 pub kept0 : Kept (IsSound any_form) two b0 t0 (v0 ∷ [])
-kept0 = opens (IsSound any_form) two b0 zeros (opening_attempt []) (opening_words []) false []
-    (may_open (IsSound any_form) two zeros false [] opening)
+kept0 = opens (IsSound any_form) two b0 cells (opening_attempt []) (opening_words []) false []
+    (may_open (IsSound any_form) two cells false [] opening)
 
 pub own0 : Own two b0.install t0.course 0 v0
 own0 = (kept0.each_view 0 v0 refl).own refl
 
 pub world0 : World any_form two b0 t0 no_scripts h0 none_late
-world0 = world_opens any_form two zeros ([], tt) (omega arith)
+world0 = world_opens any_form two cells (λ n f. refl) ([], tt) (omega arith)
 
 abbrev pub k0 : PassKnows
 k0 = after_clock (knows_nothing 3) 5 true
 
 pub known0 : IsKnown b0 t0 no_scripts h0 none_late 0 k0
 known0 = (loads_tell_passes 1 2 b0 t0 no_scripts h0 none_late 0 (knows_nothing 3) world0.scripts world0.rule world0.tied
-    world0.clock (known_at_opening any_form two zeros 0)).clock true (λ _. omega arith)
+    world0.clock (known_at_opening any_form two cells 0)).clock true (λ _. omega arith)
 
 -- what follows from a step
 pub steps : (b : Board) (t : Past) (w : Scripts) (h : History) (late : ℕ → Bool) (b' : Board) (t' : Past) (w' : Scripts)
@@ -189,11 +207,18 @@ described = record {
         (some-injective raise x at) (refl, refl, refl)
     entry (suc i) x at = absurd (some-ne-none x (sym at))
 
+-- the board opened with this version
+pub basis : (k : PassKnows) → KnowsBasis two k to_raise
+basis k a among = ⊎_elim
+    (λ e. subst (λ (y : Changed). (v : ℕ) × ChangesVersion (exchange_of to_raise) y.node v × KnowsOld two k y.node v y.field y.old)
+    (sym e) (0, record { change = raise; among = inl refl; is_of = (refl, refl); old = refl }, was_opened refl refl))
+    (λ none'. absurd none') among
+
 abbrev pub b4 : Board
 b4 = with_status b3 0 (record { number = 4; stage = Undecided })
 
 abbrev pub t4 : Past
-t4 = with_values t0 zeros zeros (put2 t0.attempt 0 4 to_raise) (put2 t0.words 0 4 (b3.word 0))
+t4 = with_values t0 cells cells (put2 t0.attempt 0 4 to_raise) (put2 t0.words 0 4 (b3.word 0))
 
 abbrev pub w4 : Scripts
 w4 = with_script no_scripts 0 4 (b3.word 0)
@@ -215,4 +240,5 @@ step4 = (steps b2 t0 no_scripts h0 none_late b3 t0 no_scripts h0 none_late k3 v0
       no_visits = refl;
       described = described;
       fits = fits;
+      based = basis k3;
     })

@@ -19,8 +19,10 @@ use Rattle.pc_exchange_law.specs.Ties.{exchange_of}
 use Rattle.pc_exchange_law.specs.Changes.{with_word, with_status, with_next_stamp, with_values}
 use Rattle.pc_exchange_law.specs.TieLaws.{run_up_to}
 use Rattle.pc_exchange_law.specs.Attempts.{KnowsWord, KnowsEntry}
+use Rattle.pc_exchange_law.specs.Paths.{new_path}
 use Rattle.pc_exchange_law.specs.Passes.{PassKnows}
 use Rattle.pc_exchange_law.specs.Knowing.{after_draw, after_decision, after_withdrawal, after_clearing}
+use Rattle.pc_exchange_law.specs.ExchangeConditions.{KnowsCleared}
 use Rattle.pc_exchange_law.specs.ExchangeLaws.{Comes}
 use Rattle.pc_exchange_law.proofs.ExchangeLaws.{comes}
 use Rattle.pc_exchange_law.proofs.KnowingSteps.{unchanged_known}
@@ -29,10 +31,10 @@ use Rattle.pc_exchange_law.proofs.WorkedOpening.{any_form, two, to_raise, none_l
 
 -- ---- its reference comes into the word
 
-abbrev b5 : Board
+abbrev pub b5 : Board
 b5 = with_word b4 1 Version (Exchange 0 4)
 
-abbrev h5 : History
+abbrev pub h5 : History
 h5 = refer h4 1 Version (Some 256)
 
 comes_in : WordMoves two b4 t4 0 1 Version (Exchange 0 4) t4.placing t4.course
@@ -81,21 +83,21 @@ noted5 = all_one (NoteHolds two b5 t4) (held 0 4 1 Version) (
   ((omega arith, omega arith), (omega arith, omega arith)),
 )
 
-abbrev b6 : Board
+abbrev pub b6 : Board
 b6 = with_next_stamp b5
 
-abbrev h6 : History
+abbrev pub h6 : History
 h6 = draw h5 (for_exchange 256)
 
-abbrev k6 : PassKnows
+abbrev pub k6 : PassKnows
 k6 = after_draw k4 256 5
 
-step6 : (late' : ℕ → Bool) × Comes any_form two 0 b5 t4 w4 h5 none_late b6 t4 w4 h6 late' k6
+pub step6 : (late' : ℕ → Bool) × Comes any_form two 0 b5 t4 w4 h5 none_late b6 t4 w4 h6 late' k6
 unfolding place_at
 step6 = (steps b4 t4 w4 h4 none_late b5 t4 w4 h5 none_late k4 v5 step5 (owns v5 refl) noted5).draws 0 4 (record {
   ready = refl;
+  met = (1, Version, (0, refl));
   places = record { count = 1; counted = inr (refl, refl, refl, refl); each = place_at };
-  some = omega arith;
   each = held_at;
 })
   where
@@ -105,16 +107,16 @@ step6 = (steps b4 t4 w4 h4 none_late b5 t4 w4 h5 none_late k4 v5 step5 (owns v5 
 
 -- ---- it succeeds
 
-abbrev h7 : History
+abbrev pub h7 : History
 h7 = commit h6 256 5
 
-abbrev b7 : Board
+abbrev pub b7 : Board
 b7 = with_status b6 0 (record { number = 4; stage = Succeeded 5 })
 
-abbrev t7 : Past
+abbrev pub t7 : Past
 t7 = with_values t4 h7.plain h7.plain t4.attempt t4.words
 
-abbrev k7 : PassKnows
+abbrev pub k7 : PassKnows
 k7 = after_decision k6 256 (committed 5)
 
 step7 : Comes any_form two 0 b6 t4 w4 h6 step6.0 b7 t7 w4 h7 step6.0 k7
@@ -123,10 +125,10 @@ step7 = (steps b5 t4 w4 h5 none_late b6 t4 w4 h6 step6.0 k6 v0 step6.1 own0 (all
 
 -- ---- the new number takes the place of the reference
 
-abbrev b8 : Board
+abbrev pub b8 : Board
 b8 = with_word b7 1 Version (Plain 2)
 
-abbrev h8 : History
+abbrev pub h8 : History
 h8 = refer h7 1 Version None
 
 own_entry : KnowsEntry [] 0 k7.own 0 4 0 1 Version 0 2
@@ -139,7 +141,7 @@ own_entry = record {
   new_word = inr (refl, refl, refl, refl);
 }
 
-step8 : Comes any_form two 0 b7 t7 w4 h7 step6.0 b8 t7 w4 h8 step6.0 k7
+pub step8 : Comes any_form two 0 b7 t7 w4 h7 step6.0 b8 t7 w4 h8 step6.0 k7
 step8 = (steps b6 t4 w4 h6 step6.0 b7 t7 w4 h7 step6.0 k7 v0 step7 own0 (all_none (NoteHolds two b7 t7))).takes 0 4 1 Version 2
     refl (omega arith) (record {
       entry = 0;
@@ -153,6 +155,12 @@ step8 = (steps b6 t4 w4 h6 step6.0 b7 t7 w4 h7 step6.0 k7 v0 step7 own0 (all_non
 
 -- ---- and it is cleared
 
+abbrev pub b9 : Board
+b9 = with_status b8 0 (record { number = 4; stage = Idle })
+
+abbrev pub k9 : PassKnows
+k9 = after_clearing k7
+
 abbrev v8 : View
 v8 = record v0 { notes = clean 0 4 1 Version ∷ [] }
 
@@ -162,8 +170,19 @@ noted8 = all_one (NoteHolds two b8 t7) (clean 0 4 1 Version) (
   ((omega arith, omega arith), (omega arith, omega arith)),
 )
 
-step9 : Comes any_form two 0 b8 t7 w4 h8 step6.0 (with_status b8 0 (record { number = 4; stage = Idle })) t7 w4 h8 step6.0
-    (after_clearing k7)
+clean_at : (i : ℕ) (below : i < 1) → Has v8.notes (clean 0 4 (place_at i below).0 (place_at i below).1)
+unfolding place_at
+clean_at zero below = (0, refl)
+clean_at (suc i) below = absurd (omega arith)
+
+-- the pass knows by now that it is gone from all words
+gone_by_now : KnowsCleared (record { view = v8; knows = k7; aim = (0, 4); path = new_path }) 0 4
+gone_by_now = record {
+  places = record { count = 1; counted = inr (refl, refl, refl, refl); each = place_at };
+  each = clean_at;
+}
+
+pub step9 : Comes any_form two 0 b8 t7 w4 h8 step6.0 b9 t7 w4 h8 step6.0 k9
 unfolding place_at
 step9 = (steps b7 t7 w4 h7 step6.0 b8 t7 w4 h8 step6.0 k7 v8 step8 (owns v8 refl) noted8).clears (record {
   stage = committed 5;
@@ -171,10 +190,6 @@ step9 = (steps b7 t7 w4 h7 step6.0 b8 t7 w4 h8 step6.0 k7 v8 step8 (owns v8 refl
   places = record { count = 1; counted = inr (refl, refl, refl, refl); each = place_at };
   each = clean_at;
 })
-  where
-    clean_at : (i : ℕ) (below : i < 1) → Has v8.notes (clean 0 4 (place_at i below).0 (place_at i below).1)
-    clean_at zero below = (0, refl)
-    clean_at (suc i) below = absurd (omega arith)
 
 the_run : run_up_to h8 ≡ record { stamp = 5; what = exchange_of to_raise } ∷ []
 the_run = refl

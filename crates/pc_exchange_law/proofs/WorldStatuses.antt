@@ -21,7 +21,10 @@ use Rattle.pc_rule_law.proofs.Keeping.{LeavesTries}
 use Rattle.pc_rule_law.proofs.Outcomes as Outcomes
 use Rattle.pc_protocol.specs.Histories.{Cause, withdrawn, ended, changed, locked, undecided, committed, aborted, History}
 use Rattle.pc_protocol.specs.Histories.{IsPublished}
+use Rattle.pc_protocol.specs.Bases.{HasBasis}
 use Rattle.pc_protocol.specs.Steps.{publish, commit, CanCommit, abort, CanAbort}
+use Rattle.pc_protocol.proofs.Bases.{bases_still, bases_with}
+use Rattle.pc_protocol.proofs.Owned.{steps_keep_owned}
 use Rattle.pc_protocol.proofs.Stages.{same_cause}
 use Rattle.pc_exchange_law.specs.Ties.{code, exchange_of}
 use Rattle.pc_exchange_law.specs.Changes.{with_status, with_values, at_stage, stage_by, Leads, RaisesNodes}
@@ -68,7 +71,7 @@ module _ (form : Form) (z : Size) (id : ℕ) (b : Board) (t : Past) (w : Scripts
   module _ (small : id < 64) (c : ℕ) (x : Attempt) (keys : List ℕ) (idle : IsIdle (b.status id).stage)
       (room : (b.status id).number + 1 < 2 ^ 28) (past : c ≤ b.clock) (formed : IsFormed z.slots x)
       (raises : RaisesNodes x) (no_visits : x.visits ≡ []) (describes : Describes z.slots x (b.word id))
-      (fits : Fits form z.slots (exchange_of x) keys) where
+      (fits : Fits form z.slots (exchange_of x) keys) (basis : HasBasis h (exchange_of x)) where
     abbrev a : ℕ
     a = (b.status id).number + 1
 
@@ -115,9 +118,11 @@ module _ (form : Form) (z : Size) (id : ℕ) (b : Board) (t : Past) (w : Scripts
         tied = led.tied;
         scripts = (steps_keep_scripts z.slots b t w world.scripts).publishes id x describes;
         clock = world.clock;
+        opened = world.opened;
         opening = world.opening;
         charged = put2 world.charged id a keys;
         fits = fits_still;
+        based = bases_with h (code id a) (exchange_of x) c led.keeps basis world.based;
       };
       keeps = led.keeps;
       grows = status_grows (IsSound form) z b t id id next t.cells t.plain attempt' words' shared moves;
@@ -137,6 +142,7 @@ module _ (form : Form) (z : Size) (id : ℕ) (b : Board) (t : Past) (w : Scripts
           (λ j low ne. updated_other h.stage (code id a) undecided (code j (b.status j).number)
           (λ e. ne (same_seat j (b.status j).number id a low small e)));
       leaves_late = λ j ne. refl;
+      unread = ((steps_keep_owned h world.rule).publishes (code id a) (exchange_of x) c).unread;
     }
 
   -- an attempt is decided
@@ -189,9 +195,12 @@ module _ (form : Form) (z : Size) (id : ℕ) (b : Board) (t : Past) (w : Scripts
           tied = won.tied;
           scripts = (steps_keep_scripts z.slots b t w world.scripts).decides p (Succeeded s) after after (inl pending_then);
           clock = world.clock;
+          opened = world.opened;
           opening = world.opening;
           charged = world.charged;
           fits = fits_won;
+          based = bases_still h (commit h y s) won.keeps
+              (published_before b t h world.tied p small (committed s) can.undecided) world.based;
         };
         keeps = won.keeps;
         grows = status_grows (IsSound form) z b t id p (at_stage b p (Succeeded s)) after after t.attempt t.words shared won_moves;
@@ -202,6 +211,7 @@ module _ (form : Form) (z : Size) (id : ℕ) (b : Board) (t : Past) (w : Scripts
         leaves_attempts = (steps_leave_attempts id b h).decided p (Succeeded s) (committed s) (commit h y s) pending_then
             (λ i. i) (λ is. absurd (let clash : committed s ≡ aborted withdrawn = is in cc)) (λ i. refl);
         leaves_late = λ j ne. refl;
+        unread = λ j r. (steps_keep_owned h world.rule).commits_unread y s j r can;
       }
 
     -- it fails for a cause; only the pass itself withdraws it of its own accord
@@ -240,10 +250,13 @@ module _ (form : Form) (z : Size) (id : ℕ) (b : Board) (t : Past) (w : Scripts
           scripts = (steps_keep_scripts z.slots b t w world.scripts).decides p (stage_by cause) t.cells t.plain
               (inl pending_before);
           clock = world.clock;
+          opened = world.opened;
           opening = world.opening;
           charged = world.charged;
           fits = λ q i low_q published. world.fits q i low_q
               (published_before b t h world.tied p small (aborted cause) can.undecided (code q i) published);
+          based = bases_still h (abort h y cause) lost.keeps
+              (published_before b t h world.tied p small (aborted cause) can.undecided) world.based;
         };
         keeps = lost.keeps;
         grows = status_grows (IsSound form) z b t id p (at_stage b p (stage_by cause)) t.cells t.plain t.attempt t.words shared
@@ -254,6 +267,7 @@ module _ (form : Form) (z : Size) (id : ℕ) (b : Board) (t : Past) (w : Scripts
             (status_tries (IsSound form) z b t id p (at_stage b p (stage_by cause)) t.cells t.plain t.attempt t.words shared lost_moves);
         leaves_attempts = leaves_lost;
         leaves_late = λ j ne. refl;
+        unread = ((steps_keep_owned h world.rule).aborts y cause).unread;
       }
 
   -- the pass clears its attempt, all of whose words are clean
@@ -271,9 +285,11 @@ module _ (form : Form) (z : Size) (id : ℕ) (b : Board) (t : Past) (w : Scripts
         tied = (clearing_leads b t h world.tied id closed world.rule).tied;
         scripts = (steps_keep_scripts z.slots b t w world.scripts).decides id Idle t.cells t.plain (inr tt);
         clock = world.clock;
+        opened = world.opened;
         opening = world.opening;
         charged = world.charged;
         fits = world.fits;
+        based = world.based;
       };
       keeps = (clearing_leads b t h world.tied id closed world.rule).keeps;
       grows = status_grows (IsSound form) z b t id id (at_stage b id Idle) t.cells t.plain t.attempt t.words shared idle_moves;
@@ -284,4 +300,5 @@ module _ (form : Form) (z : Size) (id : ℕ) (b : Board) (t : Past) (w : Scripts
           (status_tries (IsSound form) z b t id id (at_stage b id Idle) t.cells t.plain t.attempt t.words shared idle_moves);
       leaves_attempts = (steps_leave_attempts id b h).own (at_stage b id Idle) h (λ j low ne. refl);
       leaves_late = λ j ne. refl;
+      unread = λ j s is. is;
     }

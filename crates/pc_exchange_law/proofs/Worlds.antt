@@ -14,7 +14,10 @@ use Rattle.pc_rule_law.proofs.Keeping.{Grows, Leaves}
 use Rattle.pc_rule_law.proofs.WordMoves.{WordMoves, word_shared, word_grows, word_leaves}
 use Rattle.pc_protocol.specs.Histories.{Purpose, for_exchange, for_read}
 use Rattle.pc_protocol.specs.Histories.{History}
+use Rattle.pc_protocol.specs.Owned.{IsUnread}
 use Rattle.pc_protocol.specs.Steps.{Keeps, draw, CanDraw, refer}
+use Rattle.pc_protocol.proofs.Bases.{bases_still}
+use Rattle.pc_protocol.proofs.Owned.{steps_keep_owned}
 use Rattle.pc_exchange_law.specs.Ties.{last_stamp, reference_in, exchange_of}
 use Rattle.pc_exchange_law.specs.Changes.{with_word, with_next_stamp, with_installs}
 use Rattle.pc_exchange_law.specs.Changes.{Leads, ShowsSame}
@@ -41,6 +44,7 @@ module _ (form : Form) (z : Size) (id : ℕ) (b : Board) (t : Past) (w : Scripts
     pub leaves : Leaves id b t b' t'
     pub leaves_attempts : LeavesAttempts id b h b' h'
     pub leaves_late : (j : ℕ) → j ≢ id → late' j ≡ late j
+    pub unread : (j s : ℕ) → IsUnread h j s → IsUnread h' j s
 
   module _ (few : z.seats ≤ 32) (shared : Shared (IsSound form) z b t) (world : World form z b t w h late) where
     -- a step that changes nothing of which the world speaks: a look, or a store to the own install's descriptor
@@ -53,10 +57,12 @@ module _ (form : Form) (z : Size) (id : ℕ) (b : Board) (t : Past) (w : Scripts
         tied = (look_leads b t h world.tied world.rule b' t' same).tied;
         scripts = (steps_keep_scripts z.slots b t w world.scripts).looks b' t' same.statuses keeps.words same.attempts;
         clock = subst (λ (c : ℕ). ClockIsBounded z.seats c late) (sym same.clock) world.clock;
+        opened = world.opened;
         opening = world.opening;
         charged = world.charged;
         fits = λ p a small published. subst (λ (x : Attempt). Fits form z.slots (exchange_of x) (world.charged p a))
             (sym (same.attempts p a)) (world.fits p a small published);
+        based = world.based;
       };
       keeps = nothing_changes h world.rule;
       grows = grows;
@@ -65,6 +71,7 @@ module _ (form : Form) (z : Size) (id : ℕ) (b : Board) (t : Past) (w : Scripts
       leaves_attempts = (steps_leave_attempts id b h).others b' h keeps.statuses (λ j place _. keeps.words j place)
           (λ x. refl);
       leaves_late = λ j ne. refl;
+      unread = λ j s is. is;
     }
 
     -- one word of a node
@@ -82,9 +89,11 @@ module _ (form : Form) (z : Size) (id : ℕ) (b : Board) (t : Past) (w : Scripts
             scripts = (steps_keep_scripts z.slots b t w world.scripts).looks (with_word b n f c)
                 (with_installs t placing' course') (λ p. refl) (λ p place. refl) (λ p a. refl);
             clock = world.clock;
+            opened = world.opened;
             opening = world.opening;
             charged = world.charged;
             fits = world.fits;
+            based = bases_still h (refer h n f (reference_in c)) led.keeps (λ x is. is) world.based;
           };
           keeps = led.keeps;
           grows = word_grows z b t id n f c placing' course' (IsSound form) shared moves;
@@ -94,6 +103,7 @@ module _ (form : Form) (z : Size) (id : ℕ) (b : Board) (t : Past) (w : Scripts
           leaves_attempts = (steps_leave_attempts id b h).others (with_word b n f c) (refer h n f (reference_in c))
               (λ p. refl) (λ j place _. refl) (λ x. refl);
           leaves_late = λ j ne. refl;
+          unread = ((steps_keep_owned h world.rule).refers n f (reference_in c)).unread;
         }
 
     -- a word of the own descriptor, while the own status is idle
@@ -122,9 +132,11 @@ module _ (form : Form) (z : Size) (id : ℕ) (b : Board) (t : Past) (w : Scripts
             (record { clock = refl; statuses = λ p. refl; words = λ n f. refl; attempts = λ p a. refl; plain = λ n f. refl })).tied;
         scripts = (steps_keep_scripts z.slots b t w world.scripts).stores id place x rests;
         clock = world.clock;
+        opened = world.opened;
         opening = world.opening;
         charged = world.charged;
         fits = world.fits;
+        based = world.based;
       };
       keeps = nothing_changes h world.rule;
       grows = record {
@@ -151,6 +163,7 @@ module _ (form : Form) (z : Size) (id : ℕ) (b : Board) (t : Past) (w : Scripts
       leaves_attempts = (steps_leave_attempts id b h).others (with_own_word b id place x) h (λ p. refl)
           (λ j l ne. put2-else b.word id place j l x (λ e _. ne e)) (λ y. refl);
       leaves_late = λ j ne. refl;
+      unread = λ j s is. is;
     }
 
     -- of the seats, only the one that draws may be late afterwards, and only from the last stamp on
@@ -186,9 +199,11 @@ module _ (form : Form) (z : Size) (id : ℕ) (b : Board) (t : Past) (w : Scripts
           tied = led.tied;
           scripts = record { describe = world.scripts.describe; present = world.scripts.present };
           clock = bounded;
+          opened = world.opened;
           opening = world.opening;
           charged = world.charged;
           fits = world.fits;
+          based = bases_still h (draw h d) led.keeps (λ x is. is) world.based;
         };
         keeps = led.keeps;
         grows = record {
@@ -211,6 +226,7 @@ module _ (form : Form) (z : Size) (id : ℕ) (b : Board) (t : Past) (w : Scripts
         leaves_attempts = (steps_leave_attempts id b h).others (with_next_stamp b) (draw h d) (λ p. refl)
             (λ j place _. refl) (λ x. refl);
         leaves_late = others;
+        unread = ((steps_keep_owned h world.rule).draws d).unread;
       }
 
       pub draw_goes : (x : ℕ) → CanDraw h x → Goes (with_next_stamp b) t w (draw h (for_exchange x)) late'

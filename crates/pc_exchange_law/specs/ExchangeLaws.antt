@@ -12,6 +12,7 @@ use Rattle.pc_rule_law.specs.Stages.{IsOpen}
 use Rattle.pc_rule_law.specs.Views.{View}
 use Rattle.pc_rule_law.specs.Rule.{Shared}
 use Rattle.pc_protocol.specs.Histories.{for_exchange, for_read, Cause, withdrawn, committed, aborted, History}
+use Rattle.pc_protocol.specs.Owned.{IsUnread}
 use Rattle.pc_protocol.specs.Steps.{Keeps, draw, publish, commit, abort, refer}
 use Rattle.pc_exchange_law.specs.Ties.{code, reference_in, exchange_of}
 use Rattle.pc_exchange_law.specs.Changes.{with_word, with_status, with_next_stamp, with_installs, with_values, at_stage}
@@ -38,6 +39,8 @@ module _ (form : Form) (z : Size) (id : ℕ) (b : Board) (t : Past) (w : Scripts
     pub attempts : AttemptsGrow b t w b' t' w'
     pub leaves : LeavesAttempts id b h b' h'
     pub leaves_late : (j : ℕ) → j ≢ id → late' j ≡ late j
+    -- no pass loses a stamp that it drew for a read
+    pub unread : (j s : ℕ) → IsUnread h j s → IsUnread h' j s
     pub known : IsKnown b' t' w' h' late' id k'
 
   pub record ExchangeStepsGoOn (v : View) (k : PassKnows) : Type 0 where
@@ -70,7 +73,7 @@ module _ (form : Form) (z : Size) (id : ℕ) (b : Board) (t : Past) (w : Scripts
         Comes (with_status b p (at_stage b p (Succeeded s))) (with_values t h'.plain h'.plain t.attempt t.words) w h' late
         (after_decision k (code p (b.status p).number) (committed s))
     pub fails : (p : ℕ) (cause : Cause) → p < 64 → IsOpen (b.status p).stage → StageInRange (stage_by cause)
-        → MayFail v k p (b.status p).number cause
+        → MayFail k p (b.status p).number cause
         → Comes (with_status b p (at_stage b p (stage_by cause))) t w (abort h (code p (b.status p).number) cause) late
         (after_decision k (code p (b.status p).number) (aborted cause))
     pub withdraws : IsOpen (b.status id).stage

@@ -6,12 +6,13 @@ use Rattle.pc_model.specs.declared.cell.Field.TheVariants.{Version}
 use Rattle.pc_model.specs.Exchanges.{Exchange as PathExchange}
 use Rattle.pc_words.specs.declared.word.WordKind.{WordKind}
 use Rattle.pc_words.specs.declared.word.WordKind.TheVariants.{Plain, Install, Exchange}
+use Rattle.pc_words.specs.declared.status.Stage.TheVariants.{Changed as ChangedNode, Locked}
 use Rattle.pc_words.specs.declared.status.Status.{Status}
 use Rattle.pc_rule_law.specs.Board.{Board}
 use Rattle.pc_rule_law.specs.Past.{Has, Past}
 use Rattle.pc_rule_law.specs.Stages.{IsIdle, IsOpen}
 use Rattle.pc_protocol.specs.Histories.{Stage, History}
-use Rattle.pc_protocol.specs.Notes.{Note, clock_was, visited, read_word, published, held, drew, verdict}
+use Rattle.pc_protocol.specs.Notes.{Note, clock_was, visited, read_word, published, held, drew, verdict, rival, outdated}
 use Rattle.pc_exchange_law.specs.Ties.{code, last_stamp, IsStageOf}
 use Rattle.pc_exchange_law.specs.Attempts.{Scripts, AttemptNote, came_to, loaded_word, listed_word, calm, calm_but}
 use Rattle.pc_exchange_law.specs.Passes.{PassKnows, IsKnown}
@@ -33,7 +34,8 @@ pub record DescriptorLoaded (k : PassKnows) (p place x : ℕ) (k' : PassKnows) :
   pub learns : Learns k k'
   pub loads : (a : ℕ) → Has k.noted (came_to p a) → Has k'.noted (loaded_word p a place x)
 
--- a status of pass p: one that isn't idle settles what was loaded of its attempt, and tells how that was decided
+-- a status of pass p: one that isn't idle settles what was loaded of its attempt, and tells how that was decided; and one
+-- that says which node changed tells that the attempt is outdated there
 pub record StatusSeen (k : PassKnows) (p : ℕ) (s : Status) (k' : PassKnows) : Type 0 where
   pub learns : Learns k k'
   pub came : Has k'.noted (came_to p s.number)
@@ -41,6 +43,10 @@ pub record StatusSeen (k : PassKnows) (p : ℕ) (s : Status) (k' : PassKnows) : 
       → Has k'.noted (listed_word p s.number place x)
   pub decided : (IsIdle s.stage → ⊥) → (IsOpen s.stage → ⊥)
       → (st : Stage) × IsStageOf s.stage st × Has k'.told (verdict (code p s.number) st)
+  pub outdated : (n : ℕ) → s.stage ≡ ChangedNode n → Has k'.told (outdated (code p s.number) n)
+  -- one that says that the attempt failed since a node is locked tells of the rival, and of the clock before its publication
+  pub locked : (n q : ℕ) → s.stage ≡ Locked n q → (c : ℕ) × Has k'.told (rival q n c)
+      × ((e : PathExchange) (d : ℕ) → Has k.told (published (code p s.number) e d) → d ≡ c)
 
 -- A word of a node. A reference is held, and its pass has come to that attempt. A plain version is a bound; and
 -- another plain number is what the word has, at each version of the node that was visited. The word is calm of each
@@ -71,9 +77,13 @@ after_own_store k place x = record k { own = record k.own { words = (place, x) �
 abbrev pub after_publication : PassKnows → ℕ → PathExchange → ℕ → PassKnows
 after_publication k x e c = record (with_more k [] (published x e c ∷ [])) { own = record k.own { number = k.own.number + 1; busy = true; withdrew = false } }
 
--- a draw for exchange x at a stamp; and one that is refused at this clock
+-- a draw for exchange x at a stamp; and, below, one that is refused at this clock
 abbrev pub after_draw : PassKnows → ℕ → ℕ → PassKnows
 after_draw k x s = record (with_more k [] (drew x s ∷ [])) { ready = false }
+
+-- a draw for a read: the clock has come above the stamp
+abbrev pub after_read_draw : PassKnows → ℕ → PassKnows
+after_read_draw k s = record (with_more k [] (clock_was (s + 1) ∷ [])) { ready = false }
 
 abbrev pub after_refusal : PassKnows → ℕ → PassKnows
 after_refusal k c = record (with_more k [] (clock_was c ∷ [])) { ready = false }

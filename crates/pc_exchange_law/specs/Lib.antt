@@ -8,6 +8,7 @@ pub mod ExchangeLaws
 pub mod FieldCodes
 pub mod Knowing
 pub mod Passes
+pub mod Paths
 pub mod TieLaws
 pub mod Ties
 pub mod ViewNotes

@@ -1,9 +1,9 @@
 -- The laws of the tie: of a board that opens, of each step, of what loads tell, and of the run at the end.
-use Rattle.std.specs.Prelude.{◌≡◌, ℕ, ◌+◌, ◌<◌, ◌≤◌, ◌⊎◌, List, [], None, false}
+use Rattle.std.specs.Prelude.{◌≡◌, ◌≢◌, ℕ, ◌+◌, ◌<◌, ◌≤◌, ◌⊎◌, List, [], Some, None, false}
 use Rattle.pc_model.specs.declared.cell.Field.{Field}
 use Rattle.pc_model.specs.declared.cell.Field.TheVariants.{Version}
 use Rattle.pc_model.specs.Cells.{Cells}
-use Rattle.pc_model.specs.Exchanges.{Changed}
+use Rattle.pc_model.specs.Exchanges.{Changed, Exchange as PathExchange}
 use Rattle.pc_model.specs.Forms.{Form, IsSound, Fits}
 use Rattle.pc_words.specs.declared.word.WordKind.{WordKind}
 use Rattle.pc_words.specs.declared.word.WordKind.TheVariants.{Plain, Exchange}
@@ -17,10 +17,11 @@ use Rattle.pc_rule_law.specs.Rule.{Shared}
 use Rattle.pc_rule_law.specs.Values.{IsPlainValue}
 use Rattle.pc_rule_law.specs.Openings.{opening_board, opening_attempt, opening_words}
 use Rattle.pc_rule_law.specs.Seats.{opening_past}
-use Rattle.pc_protocol.specs.Histories.{for_exchange, for_read, Cause, withdrawn, ended, changed, Stage, committed, aborted, used}
+use Rattle.pc_protocol.specs.Histories.{for_exchange, for_read, Cause, withdrawn, ended, changed, locked, Stage, committed, aborted, used}
 use Rattle.pc_protocol.specs.Histories.{History, IsPublished, IsUndecided, value_by}
 use Rattle.pc_protocol.specs.Rules.{Rule}
-use Rattle.pc_protocol.specs.Notes.{clock_was, visited, read_word, held, drew, verdict, in_run, IsTrueNote}
+use Rattle.pc_protocol.specs.Notes.{clock_was, visited, read_word, held, drew, verdict, rival, in_run, outdated, IsTrueNote}
+use Rattle.pc_protocol.specs.Bases.{IsBased}
 use Rattle.pc_protocol.specs.Steps.{draw, CanDraw, publish, CanPublish, commit, CanCommit, abort, CanAbort, refer, CanRefer}
 use Rattle.pc_protocol.specs.Openings.{opened}
 use Rattle.pc_exchange_law.specs.Ties.{code, seat_in, number_in, last_stamp, reference_in, IsStageOf, exchange_of, IsTied}
@@ -100,9 +101,8 @@ pub record WordsServe (z : Size) (b : Board) (t : Past) (h : History) : Type 0 w
   pub withdraw : (p a : ℕ) → p < 64 → IsUndecidedAttempt b.status p a → CanAbort h (code p a) withdrawn
   pub run_out : (p a : ℕ) → p < 64 → IsUndecidedAttempt b.status p a → last_stamp ≤ b.clock
       → CanAbort h (code p a) ended
-  -- the version of a node is above the old one of its change
-  pub fail : (p a n v new : ℕ) → p < 64 → IsUndecidedAttempt b.status p a
-      → Has (t.attempt p a).changes (change n Version v new) → v < t.plain n Version
+  -- the attempt is known to be outdated at a node
+  pub fail : (p a n : ℕ) → p < 64 → IsUndecidedAttempt b.status p a → IsTrueNote h (outdated (code p a) n)
       → CanAbort h (code p a) (changed n)
 
 -- what a success does to the words and the plain values
@@ -147,6 +147,14 @@ pub record BoardTells (b : Board) (t : Past) (h : History) : Type 0 where
       → Has (t.attempt p a).changes (change n Version old new) → IsTrueNote h (verdict (code p a) (aborted (changed n)))
       → old < t.plain n Version
   pub ran_out : (x : ℕ) → IsTrueNote h (verdict x (aborted ended)) → last_stamp ≤ b.clock
+  -- an attempt that rests on the old numbers of its words is outdated where a word has another plain value; and so is
+  -- one that failed since a node changed
+  pub outdates : (p a : ℕ) (x : Changed) → p < 64 → a ≤ (b.status p).number → Has (t.attempt p a).changes x
+      → IsBased h (code p a) → t.plain x.node x.field ≢ x.old
+      → IsTrueNote h (outdated (code p a) x.node)
+  pub was_outdated : (x n : ℕ) → IsTrueNote h (verdict x (aborted (changed n))) → IsTrueNote h (outdated x n)
+  -- one that failed since a node was locked: the rival, by the clock before its publication
+  pub was_locked : (x n q : ℕ) → IsTrueNote h (verdict x (aborted (locked n q))) → IsTrueNote h (rival q n (h.published_at x))
 
 -- ---- the run
 
@@ -166,6 +174,8 @@ pub record RunTells (b : Board) (t : Past) (h : History) : Type 0 where
   pub each : (x : Stamped) → IsAmong x (run_up_to h) → IsOfRun t h x
   -- the cells that they leave are the plain values
   pub leaves : (n : ℕ) (f : Field) → cells_after h.opening (run_up_to h) n f ≡ t.plain n f
+  -- what took effect at a stamp, an attempt or a read, stands in it
+  pub item_stands : (s : ℕ) (e : PathExchange) → h.item s ≡ Some e → IsAmong (record { stamp = s; what = e }) (run_up_to h)
   -- an attempt that took effect stands in it at its stamp
   pub committed_stands : (p a s : ℕ) → p < 64 → h.stage (code p a) ≡ committed s
       → IsAmong (record { stamp = s; what = exchange_of (t.attempt p a) }) (run_up_to h)

@@ -36,7 +36,7 @@ pub record ViewNotesStay (form : Form) (z : Size) (id : ℕ) (b : Board) (t : Pa
       → let h' = commit h (code p (b.status p).number) s in
       KeepsViewNotes z b t (with_status b p (at_stage b p (Succeeded s))) (with_values t h'.plain h'.plain t.attempt t.words)
   pub fails : (p : ℕ) (cause : Cause) → p < 64 → IsOpen (b.status p).stage → StageInRange (stage_by cause)
-      → MayFail v k p (b.status p).number cause
+      → MayFail k p (b.status p).number cause
       → KeepsViewNotes z b t (with_status b p (at_stage b p (stage_by cause))) t
   pub withdraws : IsOpen (b.status id).stage → KeepsViewNotes z b t (with_status b id (at_stage b id Withdrawn)) t
   pub takes : (p a n : ℕ) (f : Field) (x : ℕ) → b.cell n f ≡ Exchange p a → p < 64 → MayTakeReference v k p a n f x

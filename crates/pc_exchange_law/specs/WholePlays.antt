@@ -1,26 +1,34 @@
 -- What each kind of step tells a pass whose view is whole: what the rule of installs says of its first part, and what it
 -- learns beside.
-use Rattle.std.specs.Prelude.{◌≡◌, ◌≢◌, ℕ, ◌+◌, ◌<◌, ◌≤◌, ◌⊎◌, Bool, true, false, [], ◌∷◌}
+use Rattle.std.specs.Prelude.{◌≡◌, ◌≢◌, ℕ, ◌+◌, ◌<◌, ◌≤◌, ◌⊎◌, Bool, true, false, List, [], ◌∷◌, Some}
 use Rattle.atomic_table.specs.Table.{Me}
 use Rattle.pc_model.specs.declared.cell.Field.{Field}
+use Rattle.pc_model.specs.declared.cell.Field.TheVariants.{Version}
+use Rattle.pc_model.specs.Cells.{IsEven}
+use Rattle.pc_model.specs.Exchanges.{Visited}
 use Rattle.pc_words.specs.declared.word.WordKind.{WordKind}
-use Rattle.pc_words.specs.declared.word.WordKind.TheVariants.{Install, Exchange}
+use Rattle.pc_words.specs.declared.word.WordKind.TheVariants.{Plain, Install, Exchange}
 use Rattle.pc_words.specs.declared.status.Stage.{Stage as StatusStage}
 use Rattle.pc_words.specs.declared.status.Stage.TheVariants.{Idle, Undecided, Succeeded, Withdrawn, Changed as ChangedNode, Locked}
-use Rattle.pc_words.specs.Words.{kind, IsWord}
+use Rattle.pc_words.specs.declared.status.Status.{Status}
+use Rattle.pc_words.specs.Words.{raw, kind, IsWord}
 use Rattle.pc_words.specs.Statuses.{unpacked, IsStatus}
-use Rattle.pc_rule_law.specs.Board.{own_status, own_install, own_word, Place, at_clock, at_own, at_cell}
+use Rattle.pc_rule_law.specs.Board.{own_status, own_install, own_word, Place, at_clock, at_epoch, at_own, at_cell}
+use Rattle.pc_history.specs.Footprints.{IsAmong}
+use Rattle.pc_rule_law.specs.Conditions.{IsFree}
 use Rattle.pc_rule_law.specs.Past.{Has, Attempt, Describes}
 use Rattle.pc_rule_law.specs.Views.{Note, decided_below, clean, removed, View, with_notes}
 use Rattle.pc_rule_law.specs.Plays.{IsNotedSince, IsLater, IsWell, Told, SameSeat, found, after_store, InstallLoaded, ClockLoaded}
 use Rattle.pc_rule_law.specs.Plays.{DescriptorLoaded as ViewLoaded, StatusLoaded, InstallTried, InstallTaken, after_write, after_publish}
 use Rattle.pc_protocol.specs.Histories.{withdrawn, ended, changed, locked, Stage, absent, undecided, committed, aborted}
-use Rattle.pc_protocol.specs.Notes.{clock_was, verdict}
+use Rattle.pc_protocol.specs.Notes.{clock_was, visited, verdict, in_run, outdated}
 use Rattle.pc_exchange_law.specs.Attempts.{word_in, calm, calm_but}
 use Rattle.pc_exchange_law.specs.Ties.{code, last_stamp, exchange_of}
+use Rattle.pc_exchange_law.specs.ExchangeConditions.{KnowsCleared}
 use Rattle.pc_exchange_law.specs.Passes.{PassKnows}
+use Rattle.pc_exchange_law.specs.Paths.{Path, read_of, begun_path, ended_path, with_visit, with_read, with_stamp, with_left, without_stamp}
 use Rattle.pc_exchange_law.specs.Knowing.{DescriptorLoaded, StatusSeen, WordSeen, after_clock, after_own_store}
-use Rattle.pc_exchange_law.specs.Knowing.{after_publication, after_draw, after_refusal, after_decision, after_withdrawal, after_clearing}
+use Rattle.pc_exchange_law.specs.Knowing.{after_publication, after_draw, after_read_draw, after_refusal, after_decision, after_withdrawal, after_clearing}
 use Rattle.pc_exchange_law.specs.Wholes.{Whole}
 
 abbrev pub WholeMine : Type 0
@@ -32,31 +40,40 @@ WholeTells m word T m' = (m'.1 ≡ m.1) × SameSeat m.0.view m'.0.view × Told m
 
 -- ---- loads
 
--- the clock: the pass may draw where it is below the last stamp
+-- the clock: the pass may draw where it is below the last stamp; and where an attempt is known to have failed at the
+-- clock's end, it isn't
 pub record ClockSeen (k : PassKnows) (r : ℕ) (k' : PassKnows) : Type 0 where
   pub noted : k' ≡ after_clock k r k'.ready
   pub early : r < last_stamp → k'.ready ≡ true
   pub late : last_stamp ≤ r → k'.ready ≡ false
+  pub ended : (x : ℕ) → Has k.told (verdict x (aborted ended)) → last_stamp ≤ r
 
 abbrev pub SeesClock : Whole → ℕ → Whole → Place → Type 0
-SeesClock x r y at_clock = ClockLoaded x.view r y.view × ClockSeen x.knows r y.knows × (y.aim ≡ x.aim)
+SeesClock x r y at_clock = ClockLoaded x.view r y.view × ClockSeen x.knows r y.knows × (y.aim ≡ x.aim) × (y.path ≡ x.path)
 SeesClock x r y _ = Unit {0}
 
 -- a word of a descriptor
 abbrev pub SeesWord : Whole → ℕ → Whole → Place → Type 0
 SeesWord x r y (at_own p (own_word place)) = ViewLoaded x.view p place r y.view × DescriptorLoaded x.knows p place r y.knows
-    × (y.aim ≡ x.aim)
+    × (y.aim ≡ x.aim) × (y.path ≡ x.path)
 SeesWord x r y _ = Unit {0}
+
+-- nobody but the pass itself withdraws its own attempt of its own accord
+abbrev pub OwnVerdict : Whole → ℕ → Status → Whole → Type 0
+OwnVerdict x p s y = p ≡ x.view.seat → x.knows.own.withdrew ≡ false → s.number ≡ x.knows.own.number → (st : Stage)
+    → Has y.knows.told (verdict (code p s.number) st) → st ≢ aborted withdrawn
 
 -- a status, at which the pass then aims
 abbrev pub SeesStatus : Whole → ℕ → Whole → Place → Type 0
 SeesStatus x r y (at_own p own_status) = IsStatus r × StatusLoaded x.view p (unpacked r) y.view
-    × StatusSeen x.knows p (unpacked r) y.knows × (y.aim ≡ (p, (unpacked r).number))
+    × StatusSeen x.knows p (unpacked r) y.knows × (y.aim ≡ (p, (unpacked r).number)) × OwnVerdict x p (unpacked r) y
+    × (y.path ≡ x.path)
 SeesStatus x r y _ = Unit {0}
 
 -- a word of an install's descriptor, which tells nothing beside
 abbrev pub SeesInstall : Whole → ℕ → Whole → Place → Type 0
 SeesInstall x r y (at_own q (own_install place)) = InstallLoaded x.view q place r y.view × (y.knows ≡ x.knows) × (y.aim ≡ x.aim)
+    × (y.path ≡ x.path)
 SeesInstall x r y _ = Unit {0}
 
 -- no early install of attempt a of pass p, which is decided, stands in a word in which c is found: by what was noted
@@ -65,6 +82,10 @@ abbrev pub IsFoundCalm : PassKnows → ℕ → ℕ → ℕ → Field → WordKin
 IsFoundCalm k p a n f c = Has k.noted (calm p a n f)
     ⊎ (((q : ℕ) × (i : ℕ) × Has k.noted (calm_but p a n f q i) × (c ≢ Install q i))
     ⊎ ((st : Stage) × Has k.told (verdict (code p a) st) × ((q i : ℕ) → c ≢ Install q i)))
+
+-- a reference that is found isn't that of an attempt which is known to be gone from all words
+abbrev pub IsNotCleared : Whole → ℕ → Type 0
+IsNotCleared x r = (p a : ℕ) → kind r ≡ Exchange p a → KnowsCleared x p a → ⊥
 
 -- a word of a node
 pub record CellSeen (x : Whole) (n : ℕ) (f : Field) (r : ℕ) (y : Whole) : Type 0 where
@@ -79,9 +100,18 @@ pub record CellSeen (x : Whole) (n : ℕ) (f : Field) (r : ℕ) (y : Whole) : Ty
       → Has y.view.notes (clean x.view.seat x.knows.own.number n f)
   -- an install that stands there isn't one that is known to be gone
   pub present : (q k : ℕ) → kind r ≡ Install q k → Has x.view.notes (removed q k) → ⊥
+  -- nor one of the pass, where none of its own stands anywhere
+  pub other : IsFree x.view → (q k : ℕ) → kind r ≡ Install q k → q ≢ x.view.seat
+  -- nor is a reference that of an attempt of which the word is known to be clean, or which is known to be gone from all words
+  pub unclean : (p a : ℕ) → kind r ≡ Exchange p a → Has x.view.notes (clean p a n f) → ⊥
+  pub uncleared : IsNotCleared x r
+  -- a plain version is at least each one that the node is known to have had, or was visited at; and that of the sentinel is even
+  pub rises : (v at w : ℕ) → f ≡ Version → kind r ≡ Plain w → Has x.knows.told (visited n v at) → v ≤ w
+  pub after_visits : (v : Visited) (w : ℕ) → f ≡ Version → kind r ≡ Plain w → IsAmong v x.path.visits → v.node ≡ n → v.version ≤ w
+  pub sentinel : (w : ℕ) → n ≡ 1 → f ≡ Version → kind r ≡ Plain w → IsEven w
 
 abbrev pub SeesCell : Whole → ℕ → Whole → Place → Type 0
-SeesCell x r y (at_cell n f) = CellSeen x n f r y
+SeesCell x r y (at_cell n f) = CellSeen x n f r y × (y.path ≡ x.path)
 SeesCell x r y _ = Unit {0}
 
 -- ---- stores to the own words
@@ -164,10 +194,17 @@ pub record WordSwapped (x : Whole) (n : ℕ) (f : Field) (old new r : ℕ) (y : 
   pub hit : r ≡ old → (between : PassKnows) × WordSeen x.knows n f (kind r) between × WordSeen between n f (kind new) y.knows
   pub miss : r ≢ old → WordSeen x.knows n f (kind r) y.knows
   pub aim : y.aim ≡ x.aim
+  pub path : y.path ≡ x.path
+
+-- where a plain number is found that isn't the old one, the attempt that the own install is for is outdated at this node
+abbrev pub OldDiffers : Whole → ℕ → ℕ → ℕ → Whole → Type 0
+OldDiffers x n r old y = r ≢ old → (p a v : ℕ) → x.view.install.op ≡ raw (Exchange p a) → p < 64 → kind r ≡ Plain v
+    → Has y.knows.told (outdated (code p a) n)
 
 -- the own install is placed
 abbrev pub WholePlaced : Whole → ℕ → ℕ → ℕ → Whole → Place → Type 0
 WholePlaced x old new r y (at_cell n f) = InstallTried x.view n f old r y.view × WordSwapped x n f old new r y
+    × OldDiffers x n r old y × IsNotCleared x r
 WholePlaced x old new r y _ = Unit {0}
 
 -- an install is taken away
@@ -175,16 +212,65 @@ abbrev pub WholeTaken : Whole → ℕ → ℕ → ℕ → Whole → Place → Ty
 WholeTaken x old new r y (at_cell n f) = InstallTaken x.view n f old new r y.view × WordSwapped x n f old new r y
 WholeTaken x old new r y _ = Unit {0}
 
--- a reference is taken away: then the word is clean of its attempt
+-- a reference is taken away: then the word is clean of its attempt. So it is where the reference isn't there any more, and the
+-- word is calm
 pub record ReferenceTaken (x : Whole) (n : ℕ) (f : Field) (old new r : ℕ) (y : Whole) : Type 0 where
   pub word : IsWord r
   pub later : IsLater x.view y.view
   pub aim : y.aim ≡ x.aim
+  pub path : y.path ≡ x.path
   pub cleaned : r ≡ old → (p a : ℕ) → kind old ≡ Exchange p a → Has y.view.notes (clean p a n f)
   pub becomes : r ≡ old → (m : Note) → Has (found n f (kind new)) m → IsNotedSince x.view y.view m
   pub learnt : r ≡ old → WordSeen x.knows n f (kind new) y.knows
   pub miss : r ≢ old → CellSeen x n f r y
+  pub missed_clean : r ≢ old → (p a : ℕ) → kind old ≡ Exchange p a → IsFoundCalm x.knows p a n f (kind r)
+      → Has y.view.notes (clean p a n f)
 
 abbrev pub TookReference : Whole → ℕ → ℕ → ℕ → Whole → Place → Type 0
 TookReference x old new r y (at_cell n f) = ReferenceTaken x n f old new r y
 TookReference x old new r y _ = Unit {0}
+
+-- ---- paths: what a pass visits and reads, and the read that it makes of it
+
+-- a load of a word that counts as a read, where that is told of it
+abbrev pub SeesRead : Whole → ℕ → Whole → Place → Type 0
+SeesRead x r y (at_cell n f) = CellSeen x n f r y × (y.path ≡ with_read x.path n f (kind r))
+SeesRead x r y _ = Unit {0}
+
+-- a load of a version that counts as a visit, where that is told of it: one more of this path
+abbrev pub SeesVisit : Path → Whole → ℕ → Whole → Place → Type 0
+SeesVisit p x r y (at_cell n Version) = CellSeen x n Version r y × (y.path ≡ with_visit p n (kind r))
+SeesVisit p x r y _ = Unit {0}
+
+-- a draw of a stamp for the read of the path; from the last stamp on it is refused. The stamp isn't below anything that the
+-- clock is known to have come to
+pub record ReadDrawn (x : Whole) (r : ℕ) (y : Whole) : Type 0 where
+  pub stamped : r < last_stamp → y ≡ record x { knows = after_read_draw x.knows r; path = with_stamp x.path r }
+  pub refused : last_stamp ≤ r → y ≡ record x { knows = after_refusal x.knows r }
+  pub above : (c : ℕ) → Has x.knows.told (clock_was c) → c ≤ r
+
+abbrev pub DrawsRead : Whole → ℕ → Whole → Place → Type 0
+DrawsRead x r y at_clock = ReadDrawn x r y
+DrawsRead x r y _ = Unit {0}
+
+-- what a check of the next visit of a path makes of it, by the word that it found, and what is told then: where the version is
+-- as it was visited, the visit has passed, and with the last of them the read takes effect at its stamp
+pub record PathChecked (p : Path) (r : ℕ) (q : Path) (then : PassKnows) : Type 0 where
+  pub passes : (v u : Visited) (others : List Visited) → p.left ≡ v ∷ u ∷ others → kind r ≡ Plain v.version
+      → q ≡ with_left p (u ∷ others)
+  pub takes : (s : ℕ) (v : Visited) → p.stamp ≡ Some s → p.left ≡ v ∷ [] → kind r ≡ Plain v.version
+      → (q ≡ without_stamp p) × Has then.told (in_run s (read_of p))
+  pub fails : (v : Visited) (others : List Visited) → p.left ≡ v ∷ others → kind r ≢ Plain v.version → q ≡ p
+
+abbrev pub ChecksVisit : Whole → ℕ → Whole → Place → Type 0
+ChecksVisit x r y (at_cell n Version) = CellSeen x n Version r y × PathChecked x.path r y.path y.knows
+ChecksVisit x r y _ = Unit {0}
+
+-- a load of the epoch, with which an operation begins, or ends. Nothing is told of the epoch as long as it stays
+abbrev pub BeginsPath : Whole → Whole → Place → Type 0
+BeginsPath x y at_epoch = y ≡ record x { path = begun_path }
+BeginsPath x y _ = Unit {0}
+
+abbrev pub EndsPath : Whole → Whole → Place → Type 0
+EndsPath x y at_epoch = y ≡ record x { path = ended_path }
+EndsPath x y _ = Unit {0}

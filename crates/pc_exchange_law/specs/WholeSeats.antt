@@ -12,27 +12,28 @@ use Rattle.pc_protocol.specs.Histories.{History, IsPublished}
 use Rattle.pc_protocol.specs.Notes.{Note, IsTrueNote}
 use Rattle.pc_exchange_law.specs.Attempts.{AreScripts, AttemptNote, IsTrueAttemptNote}
 use Rattle.pc_exchange_law.specs.Passes.{PassKnows}
+use Rattle.pc_exchange_law.specs.Paths.{ended_path, new_path}
 use Rattle.pc_exchange_law.specs.Ties.{code, exchange_of}
 use Rattle.pc_exchange_law.specs.TieLaws.{RunTells, run_up_to}
 use Rattle.pc_exchange_law.specs.Wholes.{Whole, knows_nothing}
 
 -- the first pass of a board
 abbrev pub first_whole : Size → Whole
-first_whole z = record { view = new_view z 0 false []; knows = knows_nothing z.starts.attempt; aim = (0, 0) }
+first_whole z = record { view = new_view z 0 false []; knows = knows_nothing z.starts.attempt; aim = (0, 0); path = new_path }
 
--- the last pass makes another, which knows what its maker has noted
+-- the last pass makes another, which knows what its maker has noted, and has visited nothing
 abbrev pub whole_maker : Whole → Whole
 whole_maker x = record x { view = maker x.view }
 
 abbrev pub whole_made : Whole → Whole
-whole_made x = record x { view = made_by x.view; knows = record (knows_nothing x.view.size.starts.attempt) { noted = x.knows.noted; told = x.knows.told } }
+whole_made x = record x { view = made_by x.view; knows = record (knows_nothing x.view.size.starts.attempt) { noted = x.knows.noted; told = x.knows.told }; path = new_path }
 
--- the last pass takes in another, with all that it noted, and nothing is left of it
+-- the last pass takes in another, with all that it noted, but not what that visited, and nothing is left of it
 abbrev pub whole_joined : Whole → Whole → Whole
 whole_joined x y = record x { view = joined_by x.view y.view; knows = record x.knows { noted = y.knows.noted ++ x.knows.noted; told = y.knows.told ++ x.knows.told } }
 
 abbrev pub whole_spent : Whole
-whole_spent = record { view = spent_view; knows = knows_nothing 0; aim = (0, 0) }
+whole_spent = record { view = spent_view; knows = knows_nothing 0; aim = (0, 0); path = ended_path }
 
 -- the words that are left are those of a closed board, whose cells are those that a run leaves from the cells of the
 -- opening: exchanges by rising stamps, each of which stands in the cells that the earlier ones leave, and each but for

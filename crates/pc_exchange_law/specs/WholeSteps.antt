@@ -4,7 +4,9 @@ use Rattle.std.specs.Prelude.{ℕ, Bool}
 use Rattle.atomic_table.specs.Table.{Step}
 use Rattle.pc_exchange_law.specs.WholePlays.{WholeMine, WholeTells, SeesClock, SeesWord, SeesStatus, SeesInstall, SeesCell}
 use Rattle.pc_exchange_law.specs.WholePlays.{StoredInstall, StoredWord, HasPublished, HasCleared, Draws, HasDecided, HasWithdrawn}
-use Rattle.pc_exchange_law.specs.WholePlays.{WholePlaced, WholeTaken, TookReference}
+use Rattle.pc_exchange_law.specs.WholePlays.{WholePlaced, WholeTaken, TookReference, SeesRead, SeesVisit, DrawsRead, ChecksVisit}
+use Rattle.pc_exchange_law.specs.WholePlays.{BeginsPath, EndsPath}
+use Rattle.pc_exchange_law.specs.Paths.{dropped}
 
 -- loads
 abbrev pub whole_loads_clock : Step Bool → WholeMine → ℕ → WholeMine → Type 0
@@ -54,3 +56,27 @@ whole_takes st m r m' = WholeTells m st.word (WholeTaken m.0 st.first st.second 
 
 abbrev pub whole_takes_reference : Step Bool → WholeMine → ℕ → WholeMine → Type 0
 whole_takes_reference st m r m' = WholeTells m st.word (TookReference m.0 st.first st.second r) m'
+
+-- loads that count as reads and visits: one visit more, or the first one of a path that begins anew
+abbrev pub whole_reads : Step Bool → WholeMine → ℕ → WholeMine → Type 0
+whole_reads st m r m' = WholeTells m st.word (SeesRead m.0 r) m'
+
+abbrev pub whole_visits : Step Bool → WholeMine → ℕ → WholeMine → Type 0
+whole_visits st m r m' = WholeTells m st.word (SeesVisit m.0.path m.0 r) m'
+
+abbrev pub whole_visits_first : Step Bool → WholeMine → ℕ → WholeMine → Type 0
+whole_visits_first st m r m' = WholeTells m st.word (SeesVisit (dropped m.0.path) m.0 r) m'
+
+-- a draw for a read, and the check of its visits
+abbrev pub whole_draws_read : Step Bool → WholeMine → ℕ → WholeMine → Type 0
+whole_draws_read st m r m' = WholeTells m st.word (DrawsRead m.0 r) m'
+
+abbrev pub whole_checks : Step Bool → WholeMine → ℕ → WholeMine → Type 0
+whole_checks st m r m' = WholeTells m st.word (ChecksVisit m.0 r) m'
+
+-- an operation begins, or ends
+abbrev pub whole_begins_path : Step Bool → WholeMine → ℕ → WholeMine → Type 0
+whole_begins_path st m r m' = WholeTells m st.word (BeginsPath m.0) m'
+
+abbrev pub whole_ends_path : Step Bool → WholeMine → ℕ → WholeMine → Type 0
+whole_ends_path st m r m' = WholeTells m st.word (EndsPath m.0) m'

@@ -2,9 +2,9 @@
 -- beside its view.
 use Rattle.std.specs.Prelude.{◌≡◌, ℕ, ◌<◌, ◌≤◌, Bool, true, false, List, [], map}
 use Rattle.atomic_table.specs.Table.{State}
-use Rattle.pc_model.specs.declared.cell.Field.{Field}
+use Rattle.pc_model.specs.declared.cell.Field.TheVariants.{Version}
+use Rattle.pc_model.specs.Cells.{Cells, IsEven}
 use Rattle.pc_model.specs.Forms.{Form, IsSound}
-use Rattle.pc_model.specs.Linked.{opening_cells}
 use Rattle.pc_rule_law.specs.Board.{Size, Board, Represents}
 use Rattle.pc_rule_law.specs.Past.{Past}
 use Rattle.pc_rule_law.specs.Views.{View}
@@ -12,14 +12,17 @@ use Rattle.pc_rule_law.specs.Rule.{Each, Kept}
 use Rattle.pc_protocol.specs.Histories.{History}
 use Rattle.pc_exchange_law.specs.AttemptSteps.{first_attempt}
 use Rattle.pc_exchange_law.specs.Passes.{PassKnows, IsKnown}
+use Rattle.pc_exchange_law.specs.Paths.{Path, IsPathOf}
 use Rattle.pc_exchange_law.specs.Worlds.{World}
 
--- the view of a pass: what the rule of installs speaks of; what the pass knows beside it; and the attempt whose status it
--- loaded last, for which a draw is, as a draw has no operand that says so. The rule says nothing of that
+-- the view of a pass: what the rule of installs speaks of; what the pass knows beside it; the attempt whose status it
+-- loaded last, for which a draw is, as a draw has no operand that says so, and of which the rule says nothing; and what it
+-- visited and read
 pub record Whole : Type 0 where
   pub view : View
   pub knows : PassKnows
   pub aim : ℕ × ℕ
+  pub path : Path
 
 abbrev pub views_of : List Whole → List View
 views_of views = map (λ (x : Whole). x.view) views
@@ -28,6 +31,10 @@ views_of views = map (λ (x : Whole). x.view) views
 abbrev pub knows_nothing : ℕ → PassKnows
 knows_nothing start = record { own = first_attempt start; ready = false; noted = []; told = [] }
 
+-- in sound cells the sentinel's version is even: it is unmarked
+abbrev pub HasEvenSentinel : Form → Type 0
+HasEvenSentinel form = (slots : ℕ) (c : Cells) → IsSound form slots c → IsEven (c 1 Version)
+
 module _ (form : Form) (z : Size) where
   -- it is so, for every pass that isn't joined to another, and for each that isn't made yet. The words of the past's
   -- attempts are those that the world speaks of
@@ -35,10 +42,12 @@ module _ (form : Form) (z : Size) where
     pub kept : Kept (IsSound form) z b t (views_of views)
     pub world : World form z b t t.words h late
     pub known : Each views (λ j x. x.view.live ≡ true → IsKnown b t t.words h late j x.knows)
+    pub paths : Each views (λ j x. x.view.live ≡ true → IsPathOf h j x.path)
     pub unmade : (j : ℕ) → t.count ≤ j → j < z.seats → IsKnown b t t.words h late j (knows_nothing z.starts.attempt)
-    -- the run begins with the cells of the opening, at which passes were given no exchange
-    pub opened : (n : ℕ) (f : Field) → h.opening n f ≡ opening_cells z.starts.version n f
+    -- passes were given no exchange at the opening
     pub none_given : t.posted ≡ false
+    -- what the shape says of the sentinel
+    pub lawful : HasEvenSentinel form
 
   -- the whole rule: the table's words are those of a board, with a past, a history and late seats, that keep it
   pub record WholeHolds (s : State Bool Whole) : Type 0 where

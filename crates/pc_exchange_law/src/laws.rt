@@ -66,7 +66,8 @@ pub fn successes_serve()
     ensures { (b : Board) (t : Past) (h : History) → Rule h → IsTied b t h → SuccessesServe b t h }
 {}
 
-/// What the clock, the words and the statuses of a tied board tell may be noted.
+/// What the clock, the words and the statuses of a tied board tell may be noted, and that an attempt is outdated in one of
+/// whose words another number is found than the old one.
 pub fn board_tells()
     ensures { (b : Board) (t : Past) (h : History) → Rule h → IsTied b t h → BoardTells b t h }
 {}

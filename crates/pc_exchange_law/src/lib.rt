@@ -17,7 +17,9 @@ pub use laws::{
     steps_stay_tied, successes_serve, view_notes_stay, words_serve,
 };
 pub use whole::{
-    WholeClear, WholeDecide, WholeDraw, WholeJoinPass, WholeLaw, WholeLoadCell, WholeLoadClock,
-    WholeLoadInstall, WholeLoadStatus, WholeLoadWord, WholeMakePass, WholePlace, WholePublish,
-    WholeStoreInstall, WholeStoreWord, WholeTake, WholeTakeReference, WholeView, WholeWithdraw,
+    WholeCheck, WholeClear, WholeDecide, WholeDraw, WholeEndPath, WholeFirstVisit, WholeJoinPass,
+    WholeLaw, WholeLoadCell, WholeLoadClock, WholeLoadInstall, WholeLoadStatus, WholeLoadWord,
+    WholeMakePass, WholeOpenPath, WholePlace, WholePublish, WholeRead, WholeReadDraw,
+    WholeStoreInstall, WholeStoreWord, WholeTake, WholeTakeReference, WholeView, WholeVisit,
+    WholeWithdraw,
 };

@@ -6,6 +6,8 @@ ghost use Rattle.pc_exchange_law.specs.WholeSteps.{whole_loads_clock, whole_load
 ghost use Rattle.pc_exchange_law.specs.WholeSteps.{whole_loads_cell, whole_stores_install, whole_stores_word, whole_publishes};
 ghost use Rattle.pc_exchange_law.specs.WholeSteps.{whole_clears, whole_draws, whole_decides, whole_withdraws, whole_places};
 ghost use Rattle.pc_exchange_law.specs.WholeSteps.{whole_takes, whole_takes_reference};
+ghost use Rattle.pc_exchange_law.specs.WholeSteps.{whole_reads, whole_visits, whole_visits_first, whole_draws_read, whole_checks};
+ghost use Rattle.pc_exchange_law.specs.WholeSteps.{whole_begins_path, whole_ends_path};
 ghost use Rattle.pc_rule_law.specs.Tables.{size_of};
 
 use atomic_table::{Join, Play, Split, TableRule};
@@ -145,6 +147,55 @@ pub struct WholeTakeReference;
 
 impl Play<bool, WholeView> for WholeTakeReference {
     ghost then = { whole_takes_reference };
+}
+
+/// A load of a word of a node that counts as a read of the path.
+pub struct WholeRead;
+
+impl Play<bool, WholeView> for WholeRead {
+    ghost then = { whole_reads };
+}
+
+/// A load of a version that counts as a visit of the path.
+pub struct WholeVisit;
+
+impl Play<bool, WholeView> for WholeVisit {
+    ghost then = { whole_visits };
+}
+
+/// A load of a version that counts as the first visit of a path that begins anew.
+pub struct WholeFirstVisit;
+
+impl Play<bool, WholeView> for WholeFirstVisit {
+    ghost then = { whole_visits_first };
+}
+
+/// A draw of a stamp for the read of the path.
+pub struct WholeReadDraw;
+
+impl Play<bool, WholeView> for WholeReadDraw {
+    ghost then = { whole_draws_read };
+}
+
+/// A load of a version that was visited, to check it for the read's stamp: the last one that passes makes the read take effect.
+pub struct WholeCheck;
+
+impl Play<bool, WholeView> for WholeCheck {
+    ghost then = { whole_checks };
+}
+
+/// A load of the epoch with which an operation begins.
+pub struct WholeOpenPath;
+
+impl Play<bool, WholeView> for WholeOpenPath {
+    ghost then = { whole_begins_path };
+}
+
+/// A load of the epoch with which an operation ends.
+pub struct WholeEndPath;
+
+impl Play<bool, WholeView> for WholeEndPath {
+    ghost then = { whole_ends_path };
 }
 
 /// The last pass makes another.

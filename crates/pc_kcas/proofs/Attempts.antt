@@ -7,6 +7,7 @@ use Rattle.std.proofs.lemmas.List.Sorted.{All-permutation, IsPermutation-sym}
 use Rattle.std.specs.List.Sorted.{IsPermutation}
 use mathlib.Core.Option.{some, some-injective, some-ne-none}
 use lib.ListN.{get_elem?}
+use Rattle.pc_model.specs.declared.cell.Field.{Field}
 use Rattle.pc_model.specs.declared.cell.Field.TheVariants.{Version}
 use Rattle.pc_model.specs.Cells.{IsNode}
 use Rattle.pc_model.specs.Forms.{Form, Fits}
@@ -20,9 +21,11 @@ use Rattle.pc_rule_law.specs.Past.{Has, Describes, IsFormed}
 use Rattle.pc_rule_law.specs.Plays.{after_publish}
 use Rattle.pc_rule_law.specs.Views.{Note, View, clock_at, removed, word_in, with_notes}
 use Rattle.pc_rule_law.proofs.Lists.{below_length, has_later}
-use Rattle.pc_protocol.specs.Notes.{clock_was}
+use Rattle.pc_protocol.specs.Notes.{Note as ToldNote, clock_was}
 use Rattle.pc_exchange_law.specs.Attempts.{word_in as known_word_in}
 use Rattle.pc_exchange_law.specs.Changes.{RaisesNodes}
+use Rattle.pc_exchange_law.specs.ExchangeConditions.{KnowsOld, was_read, is_version, was_opened, was_written, KnowsBasis}
+use Rattle.pc_exchange_law.specs.Passes.{PassKnows}
 use Rattle.pc_exchange_law.specs.Ties.{exchange_of}
 use Rattle.pc_exchange_law.specs.Wholes.{Whole}
 use Rattle.pc_exchange_law.proofs.ChangeLists.{among_has, has_among}
@@ -37,7 +40,7 @@ use Rattle.pc_rule.specs.Starting.{change_of}
 use Rattle.pc_rule.proofs.Calls.{read_at}
 use Rattle.pc_rule.proofs.Sharing.{from_map}
 use Rattle.pc_dcss.specs.Installs.{KnowsPlace}
-use Rattle.pc_kcas.specs.Exchanges.{ListsTo, RaisesVersions, FitsInEachOrder, OnlyPublished, HasPublished}
+use Rattle.pc_kcas.specs.Exchanges.{ListsTo, RaisesVersions, FitsInEachOrder, KnowsOldValues, OnlyPublished, HasPublished}
 
 pub listed_as : (places : List Place) (i : ℕ) (p : Place) → get_elem? places i ≡ some p → get_elem? (map change_of places) i ≡ some (change_of p)
 listed_as [] i p at = absurd (some-ne-none p (sym at))
@@ -115,12 +118,41 @@ raises_nodes old new same raises a among = let has = among_has (map change_of ne
       rises = inl (omega arith);
     }
 
+-- an old number that was known is known still
+pub old_still : (z : Size) (k k' : PassKnows) (n v : ℕ) (f : Field) (x : ℕ) → ((m : ToldNote) → Has k.told m → Has k'.told m) → KnowsOld z k n v f x
+    → KnowsOld z k' n v f x
+old_still z k k' n v f x more (was_read c h) = was_read c (more _ h)
+old_still z k k' n v f x more (is_version c at is h) = is_version c at is (more _ h)
+old_still z k k' n v f x more (was_opened version is) = was_opened version is
+old_still z k k' n v f x more (was_written y s c before old e decided there one other) = was_written y s c before old e (more _ decided) (more _ there) one other
+
+abbrev KnowsItsOld : Size → PassKnows → List Place → Place → Type 0
+KnowsItsOld z k places p = (v : Place) × Has places v × (v.node ≡ p.node) × (v.field ≡ Version) × KnowsOld z k p.node v.old p.field p.old
+
+-- the old numbers are known in each order of the words
+pub known_basis : (z : Size) (k k' : PassKnows) (old new : List Place) → ((m : ToldNote) → Has k.told m → Has k'.told m) → IsPermutation old new
+    → KnowsOldValues z k old → KnowsBasis z k' (attempt_of (map change_of new))
+unfolding old_still
+known_basis z k k' old new more same known a among = let has = among_has (map change_of new) a among in let p = from_map change_of new has.0 a has.1 in
+    let r : KnowsItsOld z k old p.0 = subst (KnowsItsOld z k old) (read_at new has.0 p.0 p.0 p.1)
+    (All-permutation (KnowsItsOld z k old) old new same known has.0 p.0 (below_length new has.0 p.0 p.1)) in
+    let v : Place = r.0 in let there = has_in_order old new same v r.1 in (
+      v.old,
+      record {
+        change = change_of v;
+        among = has_among (map change_of new) (change_of v) (there.0, listed_as new there.0 v there.1);
+        is_of = (r.2 ∙ ap (λ (c : Changed). c.node) p.2, r.3);
+        old = refl;
+      },
+      subst (λ (y : Changed). KnowsOld z k' y.node v.old y.field y.old) p.2 (old_still z k k' p.0.node v.old p.0.field p.0.old more r.4),
+    )
+
 -- the words that were stored may be published: those of a list, in some order
-pub may_publish : (form : Form) (z : Size) (x : Whole) (old new : List Place) (c status : ℕ) → AgreeOnAttempt x → CanWrite x.view → x.view.size ≡ z
+pub may_publish : (form : Form) (z : Size) (x : Whole) (k : PassKnows) (old new : List Place) (c status : ℕ) → AgreeOnAttempt x → CanWrite x.view → x.view.size ≡ z
     → x.view.attempt.number + 1 < 2 ^ 28 → AreListed x.view.size.slots new → IsPermutation old new → RaisesVersions old → FitsInEachOrder form x.view.size.slots old
-    → Has x.knows.told (clock_was c) → ListsTo new (word_in x.view.attempt.words) (length new)
+    → KnowsOldValues z k old → ((m : ToldNote) → Has k.told m → Has x.knows.told m) → Has x.knows.told (clock_was c) → ListsTo new (word_in x.view.attempt.words) (length new)
     → status ≡ packed (record { number = x.view.attempt.number + 1; stage = Undecided }) → MayPublish form z x.knows status
-may_publish form z x old new c status agree may sized lt all same raises fit clock so is =
+may_publish form z x k old new c status agree may sized lt all same raises fit known more clock so is =
     let slots : x.view.size.slots ≡ z.slots = ap (λ (y : Size). y.slots) sized in
     let fits = fit new same in (
       attempt_of (map change_of new),
@@ -137,12 +169,14 @@ may_publish form z x old new c status agree may sized lt all same raises fit clo
         described = subst (λ (l : List (ℕ × ℕ)). Describes z.slots (attempt_of (map change_of new)) (known_word_in l)) (sym agree.words)
             (describes_too z.slots (attempt_of (map change_of new)) x.view.attempt.words (describes z.slots new (word_in x.view.attempt.words) so));
         fits = subst (λ (s : ℕ). Fits form s (exchange_of (attempt_of (map change_of new))) fits.0) slots fits.1;
+        based = known_basis z k x.knows old new more same known;
       },
     )
 
 pub has_published : (v w : View) (places : List Place) → w ≡ after_publish v → v.posted ≡ false → v.attempt.number + 1 < 2 ^ 28
-    → ListsTo places (word_in v.attempt.words) (length places) → HasPublished w places
-has_published v w places told none lt so = subst (λ (x : View). HasPublished x places) (sym told) record {
+    → ListsTo places (word_in v.attempt.words) (length places) → 0 < length places → HasPublished w places
+has_published v w places told none lt so some' = subst (λ (x : View). HasPublished x places) (sym told) record {
+  some_listed = some';
   published = refl;
   none_posted = none;
   number = lt;

@@ -1,5 +1,5 @@
 -- What holds of a published exchange, and of its words that held, after more installs.
-use Rattle.std.proofs.Common.{◌≡◌, ◌⊎◌, ℕ, ◌+◌, ◌<◌, ◌≤◌, ◌^◌, List, [], map, get_or, refl, sym, ap, ap₂, ◌∙◌, subst, inl, inr, ⊎_elim, arith}
+use Rattle.std.proofs.Common.{◌≡◌, ◌⊎◌, ℕ, ◌+◌, ◌<◌, ◌≤◌, ◌^◌, List, [], length, map, get_or, refl, sym, ap, ap₂, ◌∙◌, subst, inl, inr, ⊎_elim, arith}
 use Rattle.std.proofs.lemmas.Bool.{cases_order}
 use mathlib.Core.Option.{some}
 use lib.ListN.{get_elem?}
@@ -21,10 +21,11 @@ use Rattle.pc_dcss.specs.declared.installed.Installed.TheVariants.{Held, Decided
 use Rattle.pc_dcss.specs.Installs.{KnowsPlace, KeepsNotes, KeepsAttempt, HasNoNumber, IsOutOfNumbers, last_install, OnHeld, IfNumbers}
 use Rattle.pc_dcss.proofs.Puts.{place_still}
 use Rattle.pc_dcss.proofs.Staying.{adds_then, noted_before, noted_after}
-use Rattle.pc_kcas.specs.Exchanges.{HasPublished, IsPublished, IsHeldAt, IsStopped, IsStoppedAt, own_exchange}
+use Rattle.pc_kcas.specs.Exchanges.{HasPublished, IsUncleared, IsHeldAt, IsStopped, IsStoppedAt, own_exchange}
 
 pub published_still : (v w : View) (old new : List Place) → KeepsAttempt v w → w.size ≡ v.size → new ≡ old → HasPublished v old → HasPublished w new
 published_still v w old new keeps sized same has = record {
+  some_listed = subst (λ (l : List Place). 0 < length l) (sym same) has.some_listed;
   published = ap (λ (a : OwnAttempt). a.published) keeps.0 ∙ has.published;
   none_posted = keeps.1 ∙ has.none_posted;
   number = subst (λ (a : OwnAttempt). a.number < 2 ^ 28) (sym keeps.0) has.number;
@@ -53,7 +54,7 @@ at_most_one v w i more out told = ⊎_elim
     (below_or v.install.number last_install)
 
 module _ {H : Type 0} {S : Ghosts H} where
-  pub pass_published : (p q : Pass H S) → IsSamePass p q → KeepsAttempt (view p) (view q) → IsPublished p → IsPublished q
+  pub pass_published : (p q : Pass H S) → IsSamePass p q → KeepsAttempt (view p) (view q) → IsUncleared p → IsUncleared q
   pass_published p q same keeps has = published_still (view p) (view q) (listed p) (listed q) keeps same.0.1 (ap (λ v. v.items) same.1) has
 
   -- what holds of the exchange that was named and of the word that was read holds of the pass's own exchange and word

@@ -12,7 +12,7 @@ use Rattle.pc_exchange_law.specs.Passes.{PassKnows}
 use Rattle.pc_exchange_law.specs.WholePlays.{ClockSeen, after_decided}
 use Rattle.pc_exchange_law.specs.Wholes.{Whole}
 use Rattle.pc_dcss.proofs.Staying.{later_then}
-use Rattle.pc_kcas.specs.Settling.{HasLearnt, HoldsEach, KnowsOf}
+use Rattle.pc_kcas.specs.Settling.{HasLearnt, HasLearntOrWithdrawn, HoldsEach, KnowsOf}
 
 same_view : (v : View) → IsLater v v
 same_view v = record { same = refl; adds = ([], refl); more = λ x h. h }
@@ -25,9 +25,7 @@ learnt_then x y z a b = record {
   view = later_then x.view y.view z.view a.view b.view;
   noted = λ n h. b.noted n (a.noted n h);
   told = λ n h. b.told n (a.told n h);
-  number = b.number ∙ a.number;
-  busy = b.busy ∙ a.busy;
-  words = b.words ∙ a.words;
+  own = b.own ∙ a.own;
 }
 
 pub learnt_by : (x y : Whole) → IsLater x.view y.view → Learns x.knows y.knows → HasLearnt x y
@@ -35,35 +33,51 @@ learnt_by x y later l = record {
   view = later;
   noted = l.noted;
   told = l.told;
-  number = ap (λ (o : OwnAttempt). o.number) l.own;
-  busy = ap (λ (o : OwnAttempt). o.busy) l.own;
-  words = ap (λ (o : OwnAttempt). o.words) l.own;
+  own = l.own;
 }
 
--- a note was told, and beside it whether the pass may draw, or that it withdrew
+-- a note was told, and beside it whether the pass may draw
 pub learnt_note : (x y : Whole) (k : PassKnows) (note : Note) → y ≡ record x { knows = k } → k.noted ≡ x.knows.noted → k.told ≡ note ∷ x.knows.told
-    → k.own.number ≡ x.knows.own.number → k.own.busy ≡ x.knows.own.busy → k.own.words ≡ x.knows.own.words → HasLearnt x y
+    → k.own ≡ x.knows.own → HasLearnt x y
 unfolding same_view
-learnt_note x y k note is noted told number busy words = subst (HasLearnt x) (sym is) record {
+learnt_note x y k note is noted told own = subst (HasLearnt x) (sym is) record {
   view = same_view x.view;
   noted = λ n h. subst (λ (l : List AttemptNote). Has l n) (sym noted) h;
   told = λ n h. subst (λ (l : List Note). Has l n) (sym told) (has_right (note ∷ []) x.knows.told n h);
-  number = number;
-  busy = busy;
-  words = words;
+  own = own;
 }
 
 -- the same of the decision of attempt a of pass p, which is noted in the view too
 pub learnt_decision : (x y : Whole) (p a : ℕ) (k : PassKnows) (note : Note) → y ≡ record x { view = after_decided x.view p a; knows = k } → k.noted ≡ x.knows.noted
-    → k.told ≡ note ∷ x.knows.told → k.own.number ≡ x.knows.own.number → k.own.busy ≡ x.knows.own.busy → k.own.words ≡ x.knows.own.words → HasLearnt x y
+    → k.told ≡ note ∷ x.knows.told → k.own ≡ x.knows.own → HasLearnt x y
 unfolding later_by
-learnt_decision x y p a k note is noted told number busy words = subst (HasLearnt x) (sym is) record {
+learnt_decision x y p a k note is noted told own = subst (HasLearnt x) (sym is) record {
   view = later_by x.view (after_decided x.view p a) (decided_below p (a + 1) ∷ []) refl;
   noted = λ n h. subst (λ (l : List AttemptNote). Has l n) (sym noted) h;
   told = λ n h. subst (λ (l : List Note). Has l n) (sym told) (has_right (note ∷ []) x.knows.told n h);
-  number = number;
-  busy = busy;
-  words = words;
+  own = own;
+}
+
+-- the pass withdrew its own attempt
+pub withdrawn_by : (x y : Whole) (p a : ℕ) (note : Note) → y ≡ record x { view = after_decided x.view p a; knows = record x.knows { told = note ∷ x.knows.told; own = record x.knows.own { withdrew = true } } }
+    → HasLearntOrWithdrawn x y
+unfolding later_by
+withdrawn_by x y p a note is = subst (HasLearntOrWithdrawn x) (sym is) record {
+  view = later_by x.view (after_decided x.view p a) (decided_below p (a + 1) ∷ []) refl;
+  noted = λ n h. h;
+  told = λ n h. has_right (note ∷ []) x.knows.told n h;
+  own = refl;
+}
+
+pub withdrawn_none : (x y : Whole) → HasLearnt x y → HasLearntOrWithdrawn x y
+withdrawn_none x y l = record { view = l.view; noted = l.noted; told = l.told; own = ap (λ (o : OwnAttempt). record o { withdrew = y.knows.own.withdrew }) l.own }
+
+pub withdrawn_then : (x y z : Whole) → HasLearntOrWithdrawn x y → HasLearntOrWithdrawn y z → HasLearntOrWithdrawn x z
+withdrawn_then x y z a b = record {
+  view = later_then x.view y.view z.view a.view b.view;
+  noted = λ n h. b.noted n (a.noted n h);
+  told = λ n h. b.told n (a.told n h);
+  own = b.own ∙ ap (λ (o : OwnAttempt). record o { withdrew = z.knows.own.withdrew }) a.own;
 }
 
 pub decision_told : (x y : Whole) (p a : ℕ) (k : PassKnows) (note : Note) → y ≡ record x { view = after_decided x.view p a; knows = k } → k.told ≡ note ∷ x.knows.told
@@ -77,13 +91,11 @@ note_told x y k note is told = subst (λ (u : Whole). Has u.knows.told note) (sy
 pub clock_learnt : (x y : Whole) (r : ℕ) → ClockLoaded x.view r y.view → ClockSeen x.knows r y.knows → HasLearnt x y
 unfolding later_by
 clock_learnt x y r told seen =
-    let own : y.knows.own ≡ x.knows.own = ap (λ (k : PassKnows). k.own) seen.noted in record {
+    record {
       view = later_by x.view y.view (clock_at r ∷ []) told.0;
       noted = λ n h. subst (λ (k : PassKnows). Has k.noted n) (sym seen.noted) h;
       told = λ n h. subst (λ (k : PassKnows). Has k.told n) (sym seen.noted) (has_right (clock_was r ∷ []) x.knows.told n h);
-      number = ap (λ (o : OwnAttempt). o.number) own;
-      busy = ap (λ (o : OwnAttempt). o.busy) own;
-      words = ap (λ (o : OwnAttempt). o.words) own;
+      own = ap (λ (k : PassKnows). k.own) seen.noted;
     }
 
 pub clock_told : (x y : Whole) (r : ℕ) → ClockSeen x.knows r y.knows → Has y.knows.told (clock_was r)
@@ -103,17 +115,17 @@ module _ (x y : Whole) (l : HasLearnt x y) (p a : ℕ) where
   pub word_still : (place w : ℕ) → KnowsWord x.knows.noted x.view.seat x.knows.own p a place w → KnowsWord y.knows.noted y.view.seat y.knows.own p a place w
   unfolding seat_still
   word_still place w known = ⊎_elim (λ noted. inl (l.noted _ noted))
-      (λ own. inr (own.0 ∙ sym seat_still, own.1 ∙ sym l.number, l.busy ∙ own.2, ap (λ (ws : List (ℕ × ℕ)). word_in ws place) l.words ∙ own.3)) known
+      (λ own. inr (own.0 ∙ sym seat_still, own.1 ∙ sym (ap (λ (o : OwnAttempt). o.number) l.own), ap (λ (o : OwnAttempt). o.busy) l.own ∙ own.2, ap (λ (o : OwnAttempt). word_in o.words place) l.own ∙ own.3)) known
 
   pub holds_still : HoldsEach x p a → HoldsEach y p a
   unfolding word_still
   holds_still h = record {
+    met = (h.met.0, h.met.1, l.view.more _ h.met.2);
     places = record {
       count = h.places.count;
       counted = word_still 1 h.places.count h.places.counted;
       each = λ i below. let e = h.places.each i below in (e.0, e.1, word_still (3 + 3 * i) _ e.2);
     };
-    some = h.some;
     each = λ i below. l.view.more _ (h.each i below);
   }
 
@@ -124,11 +136,11 @@ module _ (x y : Whole) (l : HasLearnt x y) (p a : ℕ) where
 
 -- an attempt of which a word holds the reference is known
 pub known_by_holding : (x : Whole) (p a : ℕ) → HoldsEach x p a → KnowsOf x.view p a
-known_by_holding x p a h = inl (_, _, h.each 0 h.some)
+known_by_holding x p a h = inl h.met
 
 pub draws_for : (x : Whole) (p a : ℕ) → x.knows.ready ≡ true → HoldsEach x p a → MayDrawFor x.view x.knows p a
-draws_for x p a ready h = record { ready = ready; places = h.places; some = h.some; each = h.each }
+draws_for x p a ready h = record { ready = ready; met = h.met; places = h.places; each = h.each }
 
 pub learnt_none : (x : Whole) → HasLearnt x x
 unfolding same_view
-learnt_none x = record { view = same_view x.view; noted = λ n h. h; told = λ n h. h; number = refl; busy = refl; words = refl }
+learnt_none x = record { view = same_view x.view; noted = λ n h. h; told = λ n h. h; own = refl }

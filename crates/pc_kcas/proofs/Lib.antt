@@ -1,11 +1,21 @@
 pub mod Attempts
 pub mod Holding
+pub mod Owning
+pub mod Stopped
+pub mod Blocking
+pub mod Finished
 mod Words
 pub mod Learning
 pub mod Standing
+pub mod Failing
 pub mod ReadWords
 pub mod Cleared
 pub mod TakeWords
 pub mod Ended
-mod Taken
 pub mod Collected
+pub mod Evidence
+pub mod Going
+pub mod Courses
+pub mod Concluded
+pub mod HeldWords
+pub mod HelpEnds

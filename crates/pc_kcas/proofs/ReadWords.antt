@@ -20,7 +20,7 @@ use Rattle.pc_rule.specs.declared.refs.Ref.{Ref}
 use Rattle.pc_dcss.specs.Installs.{IsDecidedSince, KnowsPlace}
 use Rattle.pc_dcss.proofs.Loads.{of_seat}
 use Rattle.pc_dcss.proofs.Staying.{noted_after}
-use Rattle.pc_kcas.specs.Readings.{HasMetExchange, HasComeTo, HasLoaded, HasRead, HasLoadedStatus, IsOver, HasPassed}
+use Rattle.pc_kcas.specs.Readings.{HasMetExchange, HasComeTo, HasLoaded, HasRead, HasLoadedStatus, IsOver, HasPassed, AreCleanWhereMet}
 
 -- the exchange that was met is one of the board's
 pub met_attempt : (z : Size) (v : View) (op : Ref) → AllNotes (NoteInRange z) v.notes → HasMetExchange v op → IsAttempt z op.seat op.number
@@ -106,6 +106,13 @@ module _ (x y : Whole) (op : Ref) (s : Status) (l : HasLoadedStatus x y op.seat 
   pub over_decided : (v : View) → AddsNotes v x.view → op.number ≤ s.number → IsOver op s → IsDecidedSince v y.view op.seat op.number
   unfolding over_below
   over_decided v adds ahead over = (decided_by s, noted_after v x.view y.view (decided_below op.seat (decided_by s)) adds l.told.decided, over_below ahead over)
+
+  -- and the words in which its reference was met are clean
+  pub over_cleaned : (v : View) → IsLater v x.view → op.number ≤ s.number → IsOver op s → AreCleanWhereMet v y.view op
+  over_cleaned v later ahead over n f has = l.told.cleared op.number n f (later.more (held op.seat op.number n f) has) (⊎_elim
+      (λ (e : op.number ≡ s.number). inr (e, over (sym e)))
+      (λ ne. ⊎_elim (λ (lt : op.number < s.number). inl lt) (λ (gt : s.number < op.number). absurd (omega arith)) ne)
+      (cases_order op.number s.number))
 
   pub number_passed : op.number < s.number → HasPassed y op s.number
   number_passed lt = (lt, l.learnt.came)

@@ -1,21 +1,22 @@
 -- What one install after another tells of a word.
-use Rattle.std.proofs.Common.{◌≡◌, ℕ, true, [], ◌∷◌, List, inl, inr, ⊎_elim, refl, sym, ap, ◌∙◌, subst}
+use Rattle.std.proofs.Common.{◌≡◌, ℕ, Option, Some, None, IfNone, true, [], ◌∷◌, inl, inr, ⊎_elim, refl, sym, ap, ◌∙◌, subst}
 use Rattle.pc_model.specs.declared.numbers.Numbers.{Numbers}
 use Rattle.pc_words.specs.declared.word.WordKind.TheVariants.{Plain}
 use Rattle.pc_rule_law.specs.Past.{Has}
 use Rattle.pc_rule_law.specs.Conditions.{IsFree}
 use Rattle.pc_rule_law.specs.Plays.{AddsNotes, IsLater, found}
-use Rattle.pc_rule_law.specs.Views.{Note, View, removed}
+use Rattle.pc_rule_law.specs.Views.{View, removed}
 use Rattle.pc_rule.specs.declared.opening.Place.{Place}
 use Rattle.pc_rule.specs.declared.refs.Ref.{Ref}
 use Rattle.pc_rule.specs.declared.refs.RefKind.{RefKind}
 use Rattle.pc_rule.specs.declared.refs.RefKind.TheVariants.{Install as AnInstall}
 use Rattle.pc_dcss.specs.declared.installed.Installed.{Installed}
 use Rattle.pc_dcss.specs.declared.installed.Installed.TheVariants.{Held, Decided, Differs, Met, Numbers as OutOfNumbers}
+use Rattle.pc_exchange_law.specs.Wholes.{Whole}
 use Rattle.pc_dcss.specs.Installs.{KnowsPlace, KeepsAttempt, IsMet, IsOther, IsGone, IsNews, IsDifferent, HasNoNumber, IfDiffers, IfMet, IfNumbers, met_note}
 use Rattle.pc_dcss.proofs.Puts.{place_still}
 use Rattle.pc_dcss.proofs.Staying.{noted_before, noted_after}
-use Rattle.pc_kcas.specs.Takings.{IsMetSince, IsDifferentSince, IsAtLastInstall, IsCompletedSince, IsAnother}
+use Rattle.pc_kcas.specs.Takings.{IsMetSince, IsDifferentSince, IsAtLastInstall, IsCompletedSince, AreMetInTurn, IsAnother}
 
 -- what holds where this is the answer, by what held before
 pub if_met : (X Y : Ref → Type 0) (i : Installed) → ((r : Ref) → X r → Y r) → IfMet i X → IfMet i Y
@@ -38,6 +39,10 @@ if_numbers X Y Decided f x = tt
 if_numbers X Y (Differs y) f x = tt
 if_numbers X Y (Met r) f x = tt
 if_numbers X Y (OutOfNumbers n) f x = f n x
+
+pub if_none : (X : Type 0) (o : Option Ref) → X → IfNone o X
+if_none X None x = x
+if_none X (Some r) x = tt
 
 -- ---- by an install, after other notes
 module _ (o u w : View) (op : Ref) (place : Place) (adds : AddsNotes o u) where
@@ -82,11 +87,19 @@ pub attempt_later : (v u w : View) → IsLater v u → KeepsAttempt u w → Keep
 attempt_later v u w later keeps = (keeps.0 ∙ ap (λ (x : View). x.attempt) later.same, keeps.1 ∙ ap (λ (x : View). x.posted) later.same)
 
 -- an install that is met isn't one that is gone
-pub another_met : (known : List Note) (place : Place) (first : Ref) (i : Installed) → Has known (removed first.seat first.number)
-    → IfMet i (IsNews known place) → IfMet i (IsAnother first)
-another_met known place first i gone told = if_met (IsNews known place) (IsAnother first) i
-    (λ r news is seat number. news (subst (λ (k : RefKind). IsGone k known r.seat r.number place.node place.field) (sym is)
-    (subst (λ s. Has known (removed s r.number)) (sym seat) (subst (λ m. Has known (removed first.seat m)) (sym number) gone)))) told
+pub another_met : (x : Whole) (place : Place) (first : Ref) (i : Installed) → Has x.view.notes (removed first.seat first.number)
+    → IfMet i (IsNews x place) → IfMet i (IsAnother first)
+another_met x place first i gone told = if_met (IsNews x place) (IsAnother first) i
+    (λ r news is seat number. news (subst (λ (k : RefKind). IsGone k x r.seat r.number place.node place.field) (sym is)
+    (subst (λ s. Has x.view.notes (removed s r.number)) (sym seat) (subst (λ m. Has x.view.notes (removed first.seat m)) (sym number) gone)))) told
+
+-- it was met before the reference that was met when the word was taken again
+pub met_in_turn : (o u w : View) (op : Ref) (place : Place) (answer again : Installed) (first : Ref) → answer ≡ Met first → IfMet answer (IsMet o u op place)
+    → IfMet again (IsMetSince u w op place) → IfMet again (AreMetInTurn o w place first)
+met_in_turn o u w op place answer again first is told more =
+    let m : IsMet o u op place first = subst (λ a. IfMet a (IsMet o u op place)) is told in
+    if_met (IsMetSince u w op place) (AreMetInTurn o w place first) again
+    (λ r later. (u, (met_note first.kind first.seat first.number place.node place.field ∷ [], m.0, (0, refl)), later.0)) more
 
 -- the install that was met first, and completed
 pub completed_since : (o u w : View) (op : Ref) (place : Place) (answer : Installed) (first : Ref) → answer ≡ Met first → first.kind ≡ AnInstall

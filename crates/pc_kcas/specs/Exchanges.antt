@@ -8,9 +8,13 @@ use Rattle.pc_model.specs.declared.cell.Field.TheVariants.{Version}
 use Rattle.pc_model.specs.declared.shape.Shape.{Ghosts}
 use Rattle.pc_model.specs.Cells.{IsEven}
 use Rattle.pc_model.specs.Forms.{Form, Fits}
+use Rattle.pc_exchange_law.specs.ExchangeConditions.{KnowsOld}
 use Rattle.pc_exchange_law.specs.Knowing.{after_own_store}
 use Rattle.pc_exchange_law.specs.Passes.{PassKnows}
-use Rattle.pc_exchange_law.specs.Ties.{exchange_of}
+use Rattle.pc_exchange_law.specs.Ties.{code, exchange_of}
+use Rattle.pc_exchange_law.specs.Wholes.{Whole}
+use Rattle.pc_protocol.specs.Notes.{published}
+use Rattle.pc_rule_law.specs.Board.{Size}
 use Rattle.pc_rule_law.specs.Openings.{attempt_of}
 use Rattle.pc_rule_law.specs.Past.{Has, Describes}
 use Rattle.pc_rule_law.specs.Plays.{after_write, AddsNotes, IsNotedSince}
@@ -20,7 +24,7 @@ use Rattle.pc_rule.specs.declared.opening.Place.{Place}
 use Rattle.pc_rule.specs.declared.refs.Ref.{Ref}
 use Rattle.pc_rule.specs.declared.refs.RefKind.TheVariants.{Exchange}
 use Rattle.pc_rule.specs.Listed.{word_number}
-use Rattle.pc_rule.specs.Passes.{view, listed}
+use Rattle.pc_rule.specs.Passes.{whole, view, listed}
 use Rattle.pc_rule.specs.Starting.{change_of}
 use Rattle.pc_dcss.specs.declared.installed.Installed.{Installed}
 use Rattle.pc_dcss.specs.Installs.{KnowsPlace, IsDecidedSince, IsDifferent, IsMet, HasNoNumber, OnHeld, OnDecided, IfDiffers, IfMet, IfNumbers}
@@ -32,6 +36,10 @@ IsFromEven p = p.field ≡ Version → IsEven p.old
 -- of each node with a word here the version is among them too, and rises by 2
 abbrev pub RaisesVersions : List Place → Type 0
 RaisesVersions places = All (λ p. (v : Place) × Has places v × (v.node ≡ p.node) × (v.field ≡ Version) × (v.new ≡ v.old + 2)) places
+
+-- of each of these words the old number is known to have stood there while its node had the old version, which is among them
+abbrev pub KnowsOldValues : Size → PassKnows → List Place → Type 0
+KnowsOldValues z k places = All (λ p. (v : Place) × Has places v × (v.node ≡ p.node) × (v.field ≡ Version) × KnowsOld z k p.node v.old p.field p.old) places
 
 -- in each order of these words, the exchange that changes them leaves sound cells, and some keys are charged
 abbrev pub FitsInEachOrder : Form → ℕ → List Place → Type 0
@@ -77,21 +85,31 @@ pub record OnlyPublished (v w : View) : Type 0 where
   pub number : w.attempt.number ≡ v.attempt.number + 1
   pub published : w.attempt.published ≡ true
 
--- the last attempt is published, and the words of its descriptor are those of these changes
+-- the last attempt is published, and the words of its descriptor are those of these changes, of which there are some
 pub record HasPublished (v : View) (places : List Place) : Type 0 where
+  pub some_listed : 0 < length places
   pub published : v.attempt.published ≡ true
   pub none_posted : v.posted ≡ false
   pub number : v.attempt.number < 2 ^ 28
   pub describes : Describes v.size.slots (attempt_of (map change_of places)) (word_in v.attempt.words)
+
+-- the pass didn't withdraw its last attempt of its own accord, and has noted that it is the exchange of these changes
+pub record KnowsOwn (x : Whole) (places : List Place) : Type 0 where
+  pub not_withdrawn : x.knows.own.withdrew ≡ false
+  pub noted : (c : ℕ) × Has x.knows.told (published (code x.view.seat x.view.attempt.number) (exchange_of (attempt_of (map change_of places))) c)
 
 module _ {H : Type 0} {S : Ghosts H} where
   -- the exchange of the pass's last attempt
   abbrev pub own_exchange : Pass H S → Ref
   own_exchange p = record { kind = Exchange; seat = (view p).seat; number = (view p).attempt.number }
 
-  -- its last attempt is published, with the words that it lists
+  -- its last attempt is published and not cleared, with the words that it lists
+  abbrev pub IsUncleared : Pass H S → Type 0
+  IsUncleared p = HasPublished (view p) (listed p)
+
+  -- and the pass didn't withdraw it of its own accord, and has noted what it is
   abbrev pub IsPublished : Pass H S → Type 0
-  IsPublished p = HasPublished (view p) (listed p)
+  IsPublished p = IsUncleared p × KnowsOwn (whole p) (listed p)
 
   -- each word that it lists is known to be one of its exchange
   abbrev pub KnowsListed : Pass H S → Type 0

@@ -3,4 +3,10 @@ pub mod Settling
 pub mod Readings
 pub mod Clearing
 pub mod Takings
-pub mod Gathering
+pub mod Obstacles
+pub mod Helping
+pub mod Concluding
+pub mod Verdicts
+pub mod Holds
+pub mod Stops
+pub mod Collecting

@@ -5,7 +5,7 @@ use Rattle.pc_words.specs.declared.status.Status.{Status}
 use Rattle.pc_rule_law.specs.Past.{Has}
 use Rattle.pc_rule_law.specs.Plays.{StatusLoaded}
 use Rattle.pc_rule_law.specs.Stages.{IsIdle}
-use Rattle.pc_rule_law.specs.Views.{View, held, word_loaded, attempt_word}
+use Rattle.pc_rule_law.specs.Views.{View, held, clean, word_loaded, attempt_word}
 use Rattle.pc_exchange_law.specs.Attempts.{came_to, loaded_word, listed_word}
 use Rattle.pc_exchange_law.specs.Knowing.{StatusSeen}
 use Rattle.pc_exchange_law.specs.Wholes.{Whole}
@@ -38,6 +38,10 @@ pub record HasLoadedStatus (x y : Whole) (p : ℕ) (s : Status) : Type 0 where
 -- the status isn't that of the exchange, or the exchange is cleared
 abbrev pub IsOver : Ref → Status → Type 0
 IsOver op s = s.number ≡ op.number → IsIdle s.stage
+
+-- since then each word in which its reference had been met is noted clean of it
+abbrev pub AreCleanWhereMet : View → View → Ref → Type 0
+AreCleanWhereMet v w op = (n : ℕ) (f : Field) → Has v.notes (held op.seat op.number n f) → Has w.notes (clean op.seat op.number n f)
 
 -- the exchange's pass was seen with a number above the exchange's
 abbrev pub HasPassed : Whole → Ref → ℕ → Type 0

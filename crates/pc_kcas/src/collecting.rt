@@ -1,19 +1,20 @@
-//! The words of another's exchange, each read and then taken.
-ghost use Rattle.std.specs.Prelude.{◌≡◌, ◌+◌, ◌<◌, ◌≤◌, IfOk, IfErr, OnOk};
+//! The words of another's exchange, each read and then held.
+ghost use Rattle.std.specs.Prelude.{◌≡◌, ◌+◌, ◌-◌, ◌<◌, ◌≤◌, IfSome, IfNone};
 ghost use Rattle.pc_rule_law.specs.Conditions.{IsFree};
-ghost use Rattle.pc_rule_law.specs.Plays.{AddsNotes};
-ghost use Rattle.pc_exchange_law.specs.Knowing.{Learns};
 ghost use Rattle.pc_rule.specs.declared.refs.RefKind.TheVariants.{Exchange};
-ghost use Rattle.pc_rule.specs.Passes.{whole, view, knows, board_size, IsPassOf, IsSamePass};
-ghost use Rattle.pc_dcss.specs.Installs.{IsDecidedSince, KeepsNotes, KeepsAttempt};
-ghost use Rattle.pc_kcas.specs.Readings.{HasComeTo, HasLoaded, HasRead, IsOver, HasPassed};
+ghost use Rattle.pc_rule.specs.Passes.{whole, view, board_size, IsPassOf, IsSamePass};
+ghost use Rattle.pc_kcas.specs.Collecting.{IsHaltedBy};
+ghost use Rattle.pc_kcas.specs.Concluding.{TellsCourse};
+ghost use Rattle.pc_kcas.specs.Holds.{halt_at};
+ghost use Rattle.pc_kcas.specs.Obstacles.{GoesOn, HasFollowed};
+ghost use Rattle.pc_kcas.specs.Readings.{HasComeTo, HasLoaded, HasRead};
 ghost use Rattle.pc_kcas.specs.Settling.{HasLearnt, IsSettled};
-ghost use Rattle.pc_kcas.specs.Takings.{HasTaken, HoldsBelow, ByCause, IsHaltedAt};
+ghost use Rattle.pc_kcas.specs.Takings.{HoldsAt, HoldsBelow};
 
 use crate::deciding::decide_held;
-use crate::installing::is_held;
+use crate::hold::hold_word;
+use crate::obstacle::Obstacle;
 use crate::reading::read_place;
-use crate::taking::{Taken, take_word};
 use pc_model::Shape;
 use pc_rule::{Board, Pass, Ref};
 use pc_words::Status;
@@ -23,18 +24,44 @@ use pc_words::Status;
 pub(crate) enum Halt {
     /// This status of its pass: it isn't the exchange's any more.
     Over(Status),
-    /// What came of the word at this index.
-    At(u32, Taken),
+    /// A word that doesn't hold its reference.
+    At {
+        /// The word's node.
+        node: u32,
+        /// Why it doesn't.
+        obstacle: Obstacle,
+    },
 }
 
-/// Reads the exchange's word at this index, and takes it. The status is answered where it isn't the exchange's any more.
+/// What came of words of an exchange, and how many links may still be followed.
+#[derive(Clone, Copy)]
+pub(crate) struct Collected {
+    /// What stopped them, where not each holds the reference.
+    pub(crate) halt: Option<Halt>,
+    /// The number of links that are left.
+    pub(crate) links: u32,
+}
+
+// What stops the words at a word of this node.
+fn halted(node: u32, obstacle: Option<Obstacle>) -> Option<Halt>
+    ensures { result ≡ halt_at node obstacle }
+{
+    match obstacle {
+        Some(obstacle) => Some(Halt::At { node, obstacle }),
+        None => None,
+    }
+}
+
+/// Reads the exchange's word at this index, and holds it.
+#[cycle(helping)]
 pub(crate) fn collect_word<H: Shape>(
     board: &Board<H>,
     pass: &mut Pass<H>,
     op: Ref,
     count: u32,
     i: u32,
-) -> Result<Taken, Status>
+    links: u32,
+) -> Collected
     requires pass { IsPassOf board.now pass.old }
     requires free { IsFree (view pass.old) }
     requires exchange { op.kind ≡ Exchange }
@@ -43,32 +70,37 @@ pub(crate) fn collect_word<H: Shape>(
     requires few { count ≤ 25 + (board_size board.now).slots }
     requires index { i < count }
     ensures pass { IsSamePass pass.old pass.new }
-    ensures learns { Learns (knows pass.old) (knows pass.new) }
-    ensures keeps { KeepsNotes (view pass.old) (view pass.new) }
-    ensures adds { AddsNotes (view pass.old) (view pass.new) }
-    ensures attempt { KeepsAttempt (view pass.old) (view pass.new) }
+    ensures goes_on { GoesOn (whole pass.old) (whole pass.new) }
     ensures free { IsFree (view pass.new) }
-    ensures taken { IfOk result (HasTaken (view pass.old) (whole pass.new) op i) }
-    ensures over { IfErr result (IsOver op) }
-    ensures decided { IfErr result (λ s. IsDecidedSince (view pass.old) (view pass.new) op.seat op.number) }
-    ensures passed { IfErr result (λ s. op.number < s.number → HasPassed (whole pass.new) op s.number) }
+    ensures links { result.links ≤ links }
+    ensures followed { HasFollowed (links - result.links) (view pass.old) (whole pass.new) }
+    ensures holds { IfNone result.halt (HoldsAt (whole pass.new) op i) }
+    ensures halted { IfSome result.halt (IsHaltedBy (whole pass.old) (whole pass.new) op result.links) }
 {
     match read_place(board, pass, op, count, i) {
         Ok(place) => {
-            let taken = take_word(board, pass, op, place);
-            Ok(taken)
+            let held = hold_word(board, pass, op, place, links);
+            Collected {
+                halt: halted(place.node, held.obstacle),
+                links: held.links,
+            }
         }
-        Err(status) => Err(status),
+        Err(status) => Collected {
+            halt: Some(Halt::Over(status)),
+            links,
+        },
     }
 }
 
-/// Takes each word of the exchange, in the order of its descriptor, and stops at the first that doesn't hold its reference.
+/// Holds each word of the exchange, in the order of its descriptor, and stops at the first that doesn't hold its reference.
+#[cycle(helping)]
 pub(crate) fn collect<H: Shape>(
     board: &Board<H>,
     pass: &mut Pass<H>,
     op: Ref,
     count: u32,
-) -> Result<(), Halt>
+    links: u32,
+) -> Collected
     requires pass { IsPassOf board.now pass.old }
     requires free { IsFree (view pass.old) }
     requires exchange { op.kind ≡ Exchange }
@@ -76,30 +108,30 @@ pub(crate) fn collect<H: Shape>(
     requires counted { HasLoaded (whole pass.old) op 1 count }
     requires few { count ≤ 25 + (board_size board.now).slots }
     ensures pass { IsSamePass pass.old pass.new }
-    ensures learns { Learns (knows pass.old) (knows pass.new) }
-    ensures keeps { KeepsNotes (view pass.old) (view pass.new) }
-    ensures adds { AddsNotes (view pass.old) (view pass.new) }
-    ensures attempt { KeepsAttempt (view pass.old) (view pass.new) }
+    ensures goes_on { GoesOn (whole pass.old) (whole pass.new) }
     ensures free { IsFree (view pass.new) }
-    ensures holds { OnOk result (HoldsBelow (whole pass.new) op count) }
-    ensures over { IfErr result (λ h. ByCause h (IsOver op) (λ i t. Unit {0})) }
-    ensures decided { IfErr result (λ h. ByCause h (λ s. IsDecidedSince (view pass.old) (view pass.new) op.seat op.number) (λ i t. Unit {0})) }
-    ensures passed { IfErr result (λ h. ByCause h (λ s. op.number < s.number → HasPassed (whole pass.new) op s.number) (λ i t. Unit {0})) }
-    ensures halted { IfErr result (λ h. ByCause h (λ s. Unit {0}) (IsHaltedAt (view pass.old) (whole pass.new) op count)) }
+    ensures links { result.links ≤ links }
+    ensures followed { HasFollowed (links - result.links) (view pass.old) (whole pass.new) }
+    ensures holds { IfNone result.halt (HoldsBelow (whole pass.new) op count) }
+    ensures halted { IfSome result.halt (IsHaltedBy (whole pass.old) (whole pass.new) op result.links) }
 {
+    let mut left = links;
     let mut i = 0;
     while i < count {
-        match collect_word(board, pass, op, count, i) {
-            Ok(taken) => {
-                if !is_held(taken.answer) {
-                    return Err(Halt::At(i, taken));
-                }
-            }
-            Err(status) => return Err(Halt::Over(status)),
+        let word = collect_word(board, pass, op, count, i, left);
+        left = word.links;
+        if let Some(halt) = word.halt {
+            return Collected {
+                halt: Some(halt),
+                links: left,
+            };
         }
         i += 1;
     }
-    Ok(())
+    Collected {
+        halt: None,
+        links: left,
+    }
 }
 
 /// Decides the exchange, each word of which held its reference: it took effect at a stamp that is drawn for it, or it is withdrawn
@@ -115,11 +147,11 @@ pub(crate) fn decide_collected<H: Shape>(
     requires come { HasComeTo (whole pass.old) op }
     requires counted { HasRead (whole pass.old) op 1 count }
     requires none { HasRead (whole pass.old) op 2 0 }
-    requires some { 0 < count }
     requires holds { HoldsBelow (whole pass.old) op count }
     ensures pass { IsSamePass pass.old pass.new }
     ensures learnt { HasLearnt (whole pass.old) (whole pass.new) }
     ensures settled { IsSettled (whole pass.new) op.seat op.number result }
+    ensures course { TellsCourse (whole pass.old) (whole pass.new) op result }
 {
     let _ = count;
     decide_held(board, pass, op)

@@ -1,15 +1,17 @@
 //! How an exchange comes to be decided: a stamp is drawn for it, and then its status is exchanged. Its own pass and whoever helps
 //! it do so by the same steps. The answer is the status that stands then: of whoever came first.
-ghost use Rattle.std.specs.Prelude.{◌≡◌, ◌<◌, ◌≤◌, ◌^◌, true, false};
+ghost use Rattle.std.specs.Prelude.{◌≡◌, ℕ, ◌<◌, ◌≤◌, ◌^◌, true, false, IfSome, IfNone};
 ghost use Rattle.pc_rule_law.specs.Past.{Has};
-ghost use Rattle.pc_rule_law.specs.Stages.{IsOpen};
-ghost use Rattle.pc_rule_law.specs.Views.{IsAttempt};
+ghost use Rattle.pc_rule_law.specs.Stages.{IsOpen, decided_by};
+ghost use Rattle.pc_rule_law.specs.Views.{IsAttempt, decided_below};
 ghost use Rattle.pc_words.specs.Statuses.{StageInRange};
-ghost use Rattle.pc_protocol.specs.Notes.{clock_was, drew};
+ghost use Rattle.pc_protocol.specs.Histories.{withdrawn, aborted};
+ghost use Rattle.pc_protocol.specs.Notes.{clock_was, drew, verdict, outdated};
 ghost use Rattle.pc_exchange_law.specs.Ties.{code, last_stamp};
 ghost use Rattle.pc_rule.specs.declared.refs.RefKind.TheVariants.{Exchange};
-ghost use Rattle.pc_rule.specs.Passes.{whole, view, knows, aim, board_size, IsPassOf, IsSamePass};
-ghost use Rattle.pc_kcas.specs.Settling.{HasLearnt, KnowsOf, StandsAt, IsSettled, HoldsEach, KnowsNoVisits, MaySettle, OwnsPublished, IfStamp, IfRefused, IfPast};
+ghost use Rattle.pc_rule.specs.Passes.{whole, view, knows, aim, board_size, IsPassOf, IsSamePass, HasNode};
+ghost use Rattle.pc_kcas.specs.Concluding.{TellsCourse};
+ghost use Rattle.pc_kcas.specs.Settling.{HasLearnt, HasLearntOrWithdrawn, KnowsOf, StandsAt, IsSettled, TellsFailure, HoldsEach, KnowsNoVisits, MaySettle, OwnsPublished, IfStamp, IfRefused, IfPast};
 
 use crate::drawn::Drawn;
 use pc_model::Shape;
@@ -19,8 +21,8 @@ use pc_words::{Stage, Status, pack, unpack};
 // The last stamp.
 const LAST_STAMP: u64 = 17_179_869_183;
 
-// Whether this is the stage of an undecided attempt.
-fn is_open(stage: Stage) -> bool
+/// Whether this is the stage of an undecided attempt.
+pub(crate) fn is_open(stage: Stage) -> bool
     ensures yes { result ≡ true → IsOpen stage }
     ensures no { result ≡ false → IsOpen stage → ⊥ }
 {
@@ -44,6 +46,10 @@ pub(crate) fn load_status<H: Shape>(board: &Board<H>, pass: &mut Pass<H>, op: Re
     ensures ready { (knows pass.new).ready ≡ (knows pass.old).ready }
     ensures aim { aim pass.new ≡ (op.seat, result.number) }
     ensures stands { StandsAt (whole pass.new) op.seat op.number result }
+    ensures range { StageInRange result.stage }
+    ensures failure { TellsFailure (whole pass.old) (whole pass.new) op.seat result }
+    ensures course { TellsCourse (whole pass.old) (whole pass.new) op result }
+    ensures still_decided { (m : ℕ) → Has (view pass.old).notes (decided_below op.seat m) → m ≤ decided_by result }
 {
     unpack(step_7(board, pass, op.seat + 1))
 }
@@ -60,6 +66,9 @@ pub(crate) fn draw<H: Shape>(board: &Board<H>, pass: &mut Pass<H>, op: Ref) -> D
     ensures stamp { IfStamp result (λ s. (s < last_stamp) × Has (knows pass.new).told (drew (code op.seat op.number) s)) }
     ensures refused { IfRefused result (λ c. (last_stamp ≤ c) × Has (knows pass.new).told (clock_was c)) }
     ensures past { IfPast result (IsSettled (whole pass.new) op.seat op.number) }
+    ensures range { IfPast result (λ s. StageInRange s.stage) }
+    ensures failure { IfPast result (TellsFailure (whole pass.old) (whole pass.new) op.seat) }
+    ensures course { IfPast result (TellsCourse (whole pass.old) (whole pass.new) op) }
 {
     let clock = step_9(board, pass);
     if clock >= LAST_STAMP {
@@ -95,6 +104,9 @@ pub(crate) fn decide<H: Shape>(
     ensures pass { IsSamePass pass.old pass.new }
     ensures learnt { HasLearnt (whole pass.old) (whole pass.new) }
     ensures settled { IsSettled (whole pass.new) op.seat op.number result }
+    ensures range { StageInRange result.stage }
+    ensures failure { TellsFailure (whole pass.old) (whole pass.new) op.seat result }
+    ensures course { TellsCourse (whole pass.old) (whole pass.new) op result }
 {
     let old = pack(Status {
         number: op.number,
@@ -112,29 +124,55 @@ pub(crate) fn decide<H: Shape>(
     unpack(found)
 }
 
-/// The pass withdraws its own attempt. Where another decided it first, that stands.
-pub(crate) fn withdraw<H: Shape>(board: &Board<H>, pass: &mut Pass<H>) -> Status
+/// Decides an exchange which is known to be outdated at this node: it failed since that changed. Where another decided it first, that
+/// stands.
+pub(crate) fn decide_changed<H: Shape>(
+    board: &Board<H>,
+    pass: &mut Pass<H>,
+    op: Ref,
+    node: u32,
+) -> Status
+    requires pass { IsPassOf board.now pass.old }
+    requires attempt { IsAttempt (board_size board.now) op.seat op.number }
+    requires known { KnowsOf (view pass.old) op.seat op.number }
+    requires node { HasNode board.now node }
+    requires outdated { Has (knows pass.old).told (outdated (code op.seat op.number) node) }
+    ensures pass { IsSamePass pass.old pass.new }
+    ensures learnt { HasLearnt (whole pass.old) (whole pass.new) }
+    ensures settled { IsSettled (whole pass.new) op.seat op.number result }
+    ensures range { StageInRange result.stage }
+    ensures failure { TellsFailure (whole pass.old) (whole pass.new) op.seat result }
+    ensures course { TellsCourse (whole pass.old) (whole pass.new) op result }
+{
+    decide(board, pass, op, Stage::Changed { node })
+}
+
+/// The pass withdraws its own attempt. Where another decided it first, that stands, and the status is answered.
+pub(crate) fn withdraw<H: Shape>(board: &Board<H>, pass: &mut Pass<H>) -> Option<Status>
     requires pass { IsPassOf board.now pass.old }
     requires published { OwnsPublished (view pass.old) }
     ensures pass { IsSamePass pass.old pass.new }
-    ensures learnt { HasLearnt (whole pass.old) (whole pass.new) }
-    ensures settled { IsSettled (whole pass.new) (view pass.old).seat (view pass.old).attempt.number result }
+    ensures withdrew { IfNone result (HasLearntOrWithdrawn (whole pass.old) (whole pass.new)) }
+    ensures told { IfNone result (Has (knows pass.new).told (verdict (code (view pass.old).seat (view pass.old).attempt.number) (aborted withdrawn))) }
+    ensures learnt { IfSome result (λ s. HasLearnt (whole pass.old) (whole pass.new)) }
+    ensures settled { IfSome result (IsSettled (whole pass.new) (view pass.old).seat (view pass.old).attempt.number) }
+    ensures range { IfSome result (λ s. StageInRange s.stage) }
+    ensures failure { IfSome result (TellsFailure (whole pass.old) (whole pass.new) (view pass.old).seat) }
 {
     let number = pass.attempts();
     let old = pack(Status {
         number,
         stage: Stage::Undecided,
     });
-    let withdrawn = Status {
+    let new = pack(Status {
         number,
         stage: Stage::Withdrawn,
-    };
-    let new = pack(withdrawn);
+    });
     let found = step_14_own(board, pass, old, new);
     if found == old {
-        return withdrawn;
+        return None;
     }
-    unpack(found)
+    Some(unpack(found))
 }
 
 /// Decides an exchange each of whose words holds its reference: it takes effect at a stamp that is drawn for it, or is withdrawn
@@ -148,6 +186,9 @@ pub(crate) fn decide_held<H: Shape>(board: &Board<H>, pass: &mut Pass<H>, op: Re
     ensures pass { IsSamePass pass.old pass.new }
     ensures learnt { HasLearnt (whole pass.old) (whole pass.new) }
     ensures settled { IsSettled (whole pass.new) op.seat op.number result }
+    ensures range { StageInRange result.stage }
+    ensures failure { TellsFailure (whole pass.old) (whole pass.new) op.seat result }
+    ensures course { TellsCourse (whole pass.old) (whole pass.new) op result }
 {
     match draw(board, pass, op) {
         Drawn::Stamp(stamp) => decide(board, pass, op, Stage::Succeeded { stamp }),

@@ -2,7 +2,8 @@
 ghost use Rattle.std.specs.Prelude.{◌≡◌, ◌+◌, ◌<◌, ◌≤◌, ℕ, true, false, length};
 ghost use Rattle.pc_rule_law.specs.Conditions.{IsFree};
 ghost use Rattle.pc_rule_law.specs.Plays.{AddsNotes};
-ghost use Rattle.pc_rule.specs.Passes.{view, listed, IsPassOf, IsSamePass};
+ghost use Rattle.pc_exchange_law.specs.Knowing.{Learns};
+ghost use Rattle.pc_rule.specs.Passes.{view, knows, listed, IsPassOf, IsSamePass};
 ghost use Rattle.pc_dcss.specs.declared.installed.Installed.TheVariants.{Held};
 ghost use Rattle.pc_dcss.specs.Installs.{KeepsAttempt, OnHeld};
 ghost use Rattle.pc_kcas.specs.Exchanges.{IsPublished, IsHeldAt, IsStoppedAt};
@@ -32,7 +33,9 @@ fn install_at<H: Shape>(board: &Board<H>, pass: &mut Pass<H>, i: u32) -> bool
     requires free { IsFree (view pass.old) }
     requires index { i < length (listed pass.old) }
     ensures pass { IsSamePass pass.old pass.new }
+    ensures learns { Learns (knows pass.old) (knows pass.new) }
     ensures free { IsFree (view pass.new) }
+    ensures published { IsPublished pass.new }
     ensures adds { AddsNotes (view pass.old) (view pass.new) }
     ensures attempt { KeepsAttempt (view pass.old) (view pass.new) }
     ensures most { (view pass.new).install.number ≤ (view pass.old).install.number + 1 }
@@ -56,6 +59,7 @@ pub fn install_first<H: Shape>(board: &Board<H>, pass: &mut Pass<H>, count: u32)
     requires published { IsPublished pass.old }
     requires free { IsFree (view pass.old) }
     ensures pass { IsSamePass pass.old pass.new }
+    ensures learns { Learns (knows pass.old) (knows pass.new) }
     ensures free { IsFree (view pass.new) }
     ensures published { IsPublished pass.new }
     ensures adds { AddsNotes (view pass.old) (view pass.new) }

@@ -1,27 +1,39 @@
-//! An exchange of several words, all or none (Harris, Fraser and Pratt): so far its publication, and the first installs of
-//! its owner. Its steps are those of `pc_rule` and the installs of `pc_dcss` alone, so the rule of the board holds between
-//! any two of them.
+//! An exchange of several words, all or none (Harris, Fraser and Pratt): a pass lists its words (`listing`), publishes it
+//! (`publishing`) and ends it (`finishing`); and whoever meets it may help it (`helping`). Its steps are those of `pc_rule` and the
+//! installs of `pc_dcss` alone, so the rule of the board holds between any two of them.
 //!
-//! What its end and the help of other passes are to be made of stands here too, for this crate alone and with no caller
-//! yet: an owner's words taken in order (`gathering`), the draw and the decision (`deciding`), clearing (`clearing`) and all
-//! of these (`ending`); and another's exchange read (`reading`), its words taken in order, and its decision (`collecting`).
+//! Its own pass and those that help it take its words by the same calls (`taking`, `hold`), and draw a stamp for it and decide it
+//! (`deciding`), and clear its words (`clearing`). Another's exchange is read (`reading`), its words are taken in order (`collecting`),
+//! and its help ends (`concluding`); the own one ends as its words stopped (`answering`, `ending`).
 #![tactic(auto)]
 
+mod answering;
 mod clearing;
 mod collecting;
+mod concluding;
 mod deciding;
 mod drawn;
 mod ending;
-mod gathering;
+mod finishing;
+mod helped;
+mod helping;
+mod hold;
 mod installing;
 mod listing;
 mod mode;
+mod obstacle;
+mod own;
 mod publishing;
 mod reading;
 mod taking;
+mod verdict;
 mod writing;
 
+pub use finishing::finish;
+pub use helped::Helped;
+pub use helping::help;
 pub use installing::install_first;
 pub use listing::word;
 pub use mode::Mode;
 pub use publishing::publish;
+pub use verdict::Verdict;

@@ -4,9 +4,9 @@ ghost use Rattle.std.specs.List.Sorted.{IsPermutation, IsNonDecreasingBy};
 ghost use Rattle.pc_model.specs.declared.cell.Counter.TheVariants.{Attempt};
 ghost use Rattle.pc_rule_law.specs.Conditions.{CanWrite};
 ghost use Rattle.pc_rule.specs.Listed.{word_number};
-ghost use Rattle.pc_rule.specs.Passes.{view, listed, IsPassOf, IsSeatedAs};
+ghost use Rattle.pc_rule.specs.Passes.{view, knows, listed, board_size, IsPassOf, IsSeatedAs};
 ghost use Rattle.pc_kcas.specs.declared.mode.Mode.TheVariants.{Words};
-ghost use Rattle.pc_kcas.specs.Exchanges.{RaisesVersions, FitsInEachOrder, OnlyPublished, IsPublished, KnowsListed, last_attempt};
+ghost use Rattle.pc_kcas.specs.Exchanges.{RaisesVersions, FitsInEachOrder, KnowsOldValues, OnlyPublished, IsPublished, KnowsListed, last_attempt};
 
 use crate::mode::Mode;
 use crate::writing::write_listed;
@@ -20,6 +20,9 @@ const LAST_ATTEMPT: u64 = 268_435_455;
 /// Publishes the words that are listed as the pass's next attempt, in the order of their numbers. Afterwards it is undecided,
 /// and each of these words may be installed. It is refused exactly where the attempt number stands at its last value: then
 /// nothing was written, and the list is dropped. It takes no memory.
+///
+/// Of each word the old value is known to have stood there while its node had the listed version: the pass read it, or the board
+/// opened so, or an exchange that took effect wrote both.
 /// - `mode`: `Words` alone, until there are paths.
 /// Source: Harris, Fraser and Pratt (2002), with numbered descriptors as those of Arbel-Raviv and Brown (2017).
 pub fn publish<H: Shape>(board: &Board<H>, pass: &mut Pass<H>, mode: Mode) -> Result<(), Numbers>
@@ -28,6 +31,7 @@ pub fn publish<H: Shape>(board: &Board<H>, pass: &mut Pass<H>, mode: Mode) -> Re
     requires some { 0 < length (listed pass.old) }
     requires raises { RaisesVersions (listed pass.old) }
     requires fits { FitsInEachOrder H.form (view pass.old).size.slots (listed pass.old) }
+    requires old { KnowsOldValues (board_size board.now) (knows pass.old) (listed pass.old) }
     requires mode { mode ≡ Words }
     ensures seated { IsSeatedAs pass.old pass.new }
     ensures only { OnOk result (OnlyPublished (view pass.old) (view pass.new)) }

@@ -9,7 +9,7 @@ ghost use Rattle.pc_exchange_law.specs.Attempts.{KnowsEntry};
 ghost use Rattle.pc_exchange_law.specs.Knowing.{Learns};
 ghost use Rattle.pc_rule.specs.Passes.{whole, view, knows, aim, board_size, IsPassOf, IsSamePass};
 ghost use Rattle.pc_dcss.specs.Installs.{IsDecidedSince, KnowsPlace};
-ghost use Rattle.pc_kcas.specs.Readings.{HasMetExchange, HasComeTo, HasLoaded, HasRead, HasLoadedStatus, IsOver, HasPassed};
+ghost use Rattle.pc_kcas.specs.Readings.{HasMetExchange, HasComeTo, HasLoaded, HasRead, HasLoadedStatus, IsOver, HasPassed, AreCleanWhereMet};
 
 use pc_dcss::field_at;
 use pc_model::Shape;
@@ -73,7 +73,9 @@ pub(crate) fn read_count<H: Shape>(
     ensures none { OnOk result (HasRead (whole pass.new) op 2 0) }
     ensures over { IfErr result (IsOver op) }
     ensures decided { IfErr result (λ s. IsDecidedSince (view pass.old) (view pass.new) op.seat op.number) }
+    ensures ahead { IfErr result (λ s. op.number ≤ s.number) }
     ensures passed { IfErr result (λ s. op.number < s.number → HasPassed (whole pass.new) op s.number) }
+    ensures cleaned { IfErr result (λ s. AreCleanWhereMet (view pass.old) (view pass.new) op) }
 {
     let count = load_word(board, pass, op, 1);
     let visits = load_word(board, pass, op, 2);
@@ -121,7 +123,9 @@ pub(crate) fn read_place<H: Shape>(
     ensures entry { IfOk result (λ at. KnowsEntry (knows pass.new).noted (view pass.new).seat (knows pass.new).own op.seat op.number i at.node at.field at.old at.new) }
     ensures over { IfErr result (IsOver op) }
     ensures decided { IfErr result (λ s. IsDecidedSince (view pass.old) (view pass.new) op.seat op.number) }
+    ensures ahead { IfErr result (λ s. op.number ≤ s.number) }
     ensures passed { IfErr result (λ s. op.number < s.number → HasPassed (whole pass.new) op s.number) }
+    ensures cleaned { IfErr result (λ s. AreCleanWhereMet (view pass.old) (view pass.new) op) }
 {
     let place = load_word(board, pass, op, 3 + 3 * i);
     let old = load_word(board, pass, op, 4 + 3 * i);

@@ -1,4 +1,5 @@
 pub mod Aborts
+pub mod Bases
 pub mod Commits
 pub mod Drawn
 pub mod Draws
@@ -16,5 +17,6 @@ pub mod Slots
 pub mod Stages
 pub mod Words
 pub mod Worked
+pub mod WorkedBases
 pub mod WorkedPair
 pub mod WorkedRead

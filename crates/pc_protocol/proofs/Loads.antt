@@ -19,7 +19,7 @@ use Rattle.pc_protocol.specs.Notes.{IsBy, IsBelowFound, visited, read_word, saw,
 use Rattle.pc_protocol.specs.Notes.{rival, IsTrueNote}
 use Rattle.pc_protocol.specs.Telling.{found_in, IsNoted, LoadsTell}
 use Rattle.pc_protocol.proofs.Stages.{undecided_value, undecided_is_published, decided_not_undecided, used_not_spare}
-use Rattle.pc_protocol.proofs.Stages.{committed_is_published}
+use Rattle.pc_protocol.proofs.Stages.{committed_is_published, aborted_is_published}
 use Rattle.pc_protocol.proofs.Notes.{NeverFalls, word_later}
 use Rattle.pc_protocol.proofs.Drawn.{changed_version_grows}
 
@@ -238,6 +238,7 @@ module _ (h : History) (rule : Rule h) where
     changed_told = λ n x v is least.
         let cause : (w : ℕ) × Covers (h.op x) n w × (w < cells_now h n Version) = rule.caused x (changed n) is in
         (le_refl h.clock, omega (arith, cause.2, least cause.0 cause.1));
+    outdated_told = λ n x is. (aborted_is_published (h.stage x) (changed n) is, rule.caused x (changed n) is);
     ended_told = λ x is. rule.caused x ended is;
     rival_told = λ n x pass is. (rule.caused x (locked n pass) is).3;
     rival_before = rival_before_tells;

@@ -11,7 +11,7 @@ use Rattle.pc_protocol.specs.Histories.{IsUndecided, IsDecided, value_by, IsUsed
 use Rattle.pc_protocol.specs.Seeing.{Covers, SawWord, Saw}
 use Rattle.pc_protocol.specs.Rules.{IsFrom, Rival, IsCause}
 use Rattle.pc_protocol.specs.Notes.{Found, value, by, IsBoundedBy, IsBelowFound, Looked, Note, clock_was, visited, read_word}
-use Rattle.pc_protocol.specs.Notes.{saw, looked, published, held, drew, verdict, in_use, rival, in_run, cleared, IsCleared}
+use Rattle.pc_protocol.specs.Notes.{saw, looked, published, held, drew, verdict, in_use, rival, in_run, cleared, outdated, IsCleared}
 use Rattle.pc_protocol.specs.Notes.{IsTrueNote}
 
 -- at each moment a node's version rose, or the node is as before
@@ -144,6 +144,10 @@ notes_stay h h' falls grows (in_use n) true' = grows.in_use n true'
 notes_stay h h' falls grows (rival pass n c) true' = rival_stays h h' grows pass n c true'
 notes_stay h h' falls grows (in_run s e) true' = grows.items s e true'
 notes_stay h h' falls grows (cleared x) true' = grows.clears x true'
+notes_stay h h' falls grows (outdated x n) true' = (
+  (grows.published x true'.0).0,
+  cause_stays h h' grows x (changed n) true'.0 true'.1,
+)
 
 -- Looks at a step that leaves the run as it is, and the worth of each reference
 

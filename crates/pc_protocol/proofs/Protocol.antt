@@ -27,6 +27,7 @@ use Rattle.pc_protocol.proofs.Reading.{read_keeps, changes_nothing}
 use Rattle.pc_protocol.proofs.Words.{refer_keeps, fill_keeps, take_slot_keeps, clear_keeps}
 use Rattle.pc_protocol.proofs.Loads.{loads_tell}
 use Rattle.pc_protocol.proofs.Serving.{notes_serve}
+use Rattle.pc_protocol.proofs.Bases.{bases_tell}
 
 pub steps_keep_the_rule : (h : History) → Rule h → StepsKeepTheRule h
 steps_keep_the_rule h rule = record {
@@ -82,6 +83,7 @@ rule_tells h rule = record {
   cause = rule.caused;
   loads = loads_tell h rule;
   notes = notes_serve h rule;
+  bases = bases_tell h rule;
 }
 
 -- a read fits any form, and charges nothing

@@ -59,6 +59,7 @@ module _ (h : History) (rule : Rule h) where
         omega (arith, lt, seen.1, versions_never_fall h.opening h.clock h.item rule.run b h.clock n seen.0),
       );
     };
+    outdated_node = λ x n u noted. record { undecided = u; cause = noted.1 };
     out_of_stamps = λ x u at_end. record { undecided = u; cause = at_end };
     locked_node = λ x n v pass s u covers other drew rival. record {
       undecided = u;

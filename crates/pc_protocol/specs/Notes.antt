@@ -4,9 +4,9 @@ use Rattle.pc_model.specs.declared.cell.Field.{Field}
 use Rattle.pc_model.specs.declared.cell.Field.TheVariants.{Version}
 use Rattle.pc_model.specs.Exchanges.{Changed, Exchange}
 use Rattle.pc_history.specs.Footprints.{IsAmong, IsOfWord, LeavesWord}
-use Rattle.pc_protocol.specs.Histories.{Stage, History, moments, IsPublished, IsUndecided, IsDecided, value_by, IsUsed, Drew}
+use Rattle.pc_protocol.specs.Histories.{changed, Stage, History, moments, IsPublished, IsUndecided, IsDecided, value_by, IsUsed, Drew}
 use Rattle.pc_protocol.specs.Seeing.{SawWord, Saw}
-use Rattle.pc_protocol.specs.Rules.{Rival}
+use Rattle.pc_protocol.specs.Rules.{Rival, IsCause}
 
 -- what a check finds in a version word: a number, plain or the one that an install names, or a reference
 pub data Found : Type 0 where
@@ -69,6 +69,8 @@ pub data Note : Type 0 where
   in_run : ℕ → Exchange → Note
   -- the clock was read after the exchange was cleared
   cleared : ℕ → Note
+  -- the exchange is published, and the node's version is above the one that it covers
+  outdated : ℕ → ℕ → Note
 
 abbrev pub IsTrueNote : History → Note → Type 0
 IsTrueNote h (clock_was c) = c ≤ h.clock
@@ -84,3 +86,4 @@ IsTrueNote h (in_use n) = IsUsed (h.slot n)
 IsTrueNote h (rival pass n c) = Rival h pass n c
 IsTrueNote h (in_run s e) = h.item s ≡ Some e
 IsTrueNote h (cleared x) = IsCleared (h.cleared_at x)
+IsTrueNote h (outdated x n) = IsPublished (h.stage x) × IsCause h x (changed n)

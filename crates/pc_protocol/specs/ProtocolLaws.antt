@@ -16,6 +16,7 @@ use Rattle.pc_protocol.specs.Steps.{take_read, CanRead, refer, CanRefer, fill, C
 use Rattle.pc_protocol.specs.Notes.{IsCleared}
 use Rattle.pc_protocol.specs.Telling.{LoadsTell}
 use Rattle.pc_protocol.specs.Serving.{NotesServe}
+use Rattle.pc_protocol.specs.Bases.{BasesTell}
 use Rattle.pc_protocol.specs.Openings.{opened, opening_slots}
 
 -- the rule holds where a board opens, also of the opening cells at any even version
@@ -76,6 +77,7 @@ pub record RuleTells (h : History) : Type 0 where
   pub cause : (x : ℕ) (w : Cause) → h.stage x ≡ aborted w → IsCause h x w
   pub loads : LoadsTell h
   pub notes : NotesServe h
+  pub bases : BasesTell h
 
 -- sound cells stay sound at every moment, where each published exchange fits
 abbrev pub CellsStaySound : Form → Type 0

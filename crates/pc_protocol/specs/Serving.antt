@@ -6,7 +6,7 @@ use Rattle.pc_history.specs.Footprints.{IsAmong, IsOfWord, IsWellFormed}
 use Rattle.pc_protocol.specs.Histories.{Stage, absent, ended, changed, locked, History, cells_now, IsPublished, IsUndecided, value_by}
 use Rattle.pc_protocol.specs.Seeing.{ChangesVersion, Covers}
 use Rattle.pc_protocol.specs.Rules.{IsReady}
-use Rattle.pc_protocol.specs.Notes.{Found, value, by, clock_was, visited, saw, looked, held, drew, verdict, rival, IsTrueNote}
+use Rattle.pc_protocol.specs.Notes.{Found, value, by, clock_was, visited, saw, looked, held, drew, verdict, rival, outdated, IsTrueNote}
 use Rattle.pc_protocol.specs.Steps.{CanDraw, CanPublish, CanCommit, CanAbort, CanRead}
 use Rattle.pc_protocol.specs.Owned.{IsUnread}
 
@@ -40,6 +40,8 @@ pub record NotesServe (h : History) : Type 0 where
   pub changed_node : (x n v w b : ℕ) → IsUndecided (h.stage x) → Covers (h.op x) n v → IsTrueNote h (visited n w b)
       → v < w
       → CanAbort h x (changed n)
+  -- it is known to be outdated at a node
+  pub outdated_node : (x n : ℕ) → IsUndecided (h.stage x) → IsTrueNote h (outdated x n) → CanAbort h x (changed n)
   -- the clock has come to its last stamp
   pub out_of_stamps : (x : ℕ) → IsUndecided (h.stage x) → IsTrueNote h (clock_was h.last) → CanAbort h x ended
   -- another pass was a rival at one of its stamps

@@ -8,7 +8,7 @@ use Rattle.pc_history.specs.Footprints.{IsAmong, IsOfWord}
 use Rattle.pc_protocol.specs.Histories.{for_exchange, committed, aborted, ended, changed, locked, History, IsUndecided}
 use Rattle.pc_protocol.specs.Histories.{IsDecided, IsSpare}
 use Rattle.pc_protocol.specs.Seeing.{ChangesVersion, Covers}
-use Rattle.pc_protocol.specs.Notes.{Found, value, by, clock_was, visited, read_word, saw, looked, published, held, drew, verdict, rival, IsTrueNote}
+use Rattle.pc_protocol.specs.Notes.{Found, value, by, clock_was, visited, read_word, saw, looked, published, held, drew, verdict, rival, outdated, IsTrueNote}
 use Rattle.pc_protocol.specs.Steps.{draw, publish}
 
 -- what stands in a word: a number, where there is no reference, or a reference
@@ -61,6 +61,8 @@ pub record LoadsTell (h : History) : Type 0 where
   -- version is past
   pub changed_told : (n x v : ℕ) → h.stage x ≡ aborted (changed n) → ((w : ℕ) → Covers (h.op x) n w → v ≤ w)
       → IsTrueNote h (visited n (suc v) h.clock)
+  -- a status that says changed: the exchange is outdated at this node
+  pub outdated_told : (n x : ℕ) → h.stage x ≡ aborted (changed n) → IsTrueNote h (outdated x n)
   -- a status that another withdrew
   pub ended_told : (x : ℕ) → h.stage x ≡ aborted ended → IsTrueNote h (clock_was h.last)
   -- a rival: its reference in a version word, or the exchange itself, not decided, or the status of the own one

@@ -26,7 +26,8 @@ pub fn steps_keep_the_rule()
 {}
 
 /// Where the rule holds the list of the run is a world run. An exchange that took effect stands in it at its stamp, in
-/// the cells that the earlier ones leave, and one that failed has its cause. What loads find may be noted.
+/// the cells that the earlier ones leave, and one that failed has its cause. What loads find may be noted. Where an
+/// exchange rests on the old numbers of its words, it is outdated once another number is found in one of them.
 pub fn what_the_rule_tells()
     ensures { (h : History) → Rule h → RuleTells h }
 {}

@@ -27,10 +27,11 @@ swapped_own x n f old new r y s = dite (ℕ_discrete r old)
     (λ e. let h = s.hit e in h.2.learns.own ∙ h.1.learns.own)
     (λ ne. (s.miss ne).learns.own)
 
--- the number of the own install and the own attempt are as they were
+-- the number of the own install, the own attempt and the path are as they were
 pub record KeepsOwn (x y : Whole) : Type 0 where
   pub install : y.view.install.number ≡ x.view.install.number
   pub attempt : y.view.attempt ≡ x.view.attempt
+  pub path : y.path ≡ x.path
   pub agree : AgreeOnAttempt x → AgreeOnAttempt y
 
 -- what is known beside changes, but not of the own attempt what the view has too
@@ -39,6 +40,7 @@ pub knows_more : (x y : Whole) (k : PassKnows) → y ≡ record x { knows = k } 
 knows_more x y k is number busy words = subst (KeepsOwn x) (sym is) record {
   install = refl;
   attempt = refl;
+  path = refl;
   agree = λ a. record { number = number ∙ a.number; busy = busy ∙ a.busy; words = words ∙ a.words };
 }
 
@@ -48,6 +50,7 @@ pub decided_keeps : (x y : Whole) (p a : ℕ) (k : PassKnows) → y ≡ record x
 decided_keeps x y p a k is number busy words = subst (KeepsOwn x) (sym is) record {
   install = refl;
   attempt = refl;
+  path = refl;
   agree = λ g. record { number = number ∙ g.number; busy = busy ∙ g.busy; words = words ∙ g.words };
 }
 
@@ -58,6 +61,7 @@ tried_keeps x p old r After y s hit = dite (ℕ_discrete r old)
     (λ ne. let m = s.miss ne in record {
       install = ap (λ (u : View). u.install.number) m.1.later.same;
       attempt = ap (λ (u : View). u.attempt) m.1.later.same;
+      path = m.5;
       agree = agree_still x y (ap (λ (u : View). u.attempt) m.1.later.same) m.2.learns.own;
     })
 

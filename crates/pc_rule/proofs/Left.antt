@@ -1,6 +1,6 @@
 -- What the words of a closed board say: by what stands when it closes, and later by what its type keeps. The type's fact is
 -- truncated, so each of these is a proposition.
-use Rattle.std.proofs.Common.{◌≡◌, ◌≢◌, ℕ, zero, suc, ◌<◌, List, [], ◌∷◌, sym, ap, ◌∙◌, subst, slice_index}
+use Rattle.std.proofs.Common.{◌≡◌, ◌≢◌, ℕ, zero, suc, List, [], ◌∷◌, sym, ap, ◌∙◌, subst, slice_index}
 use mathlib.Core.Option.{some, some-injective, some-ne-none}
 use lib.ListN.{get_elem?}
 use Rattle.std.proofs.Math.Logic.{∥∥₁_elim}
@@ -13,7 +13,7 @@ use Rattle.pc_model.specs.Exchanges.{Exchange as Exchanged}
 use Rattle.pc_history.specs.Footprints.{IsAmong}
 use Rattle.pc_history.specs.WorldRuns.{cells_after}
 use Rattle.pc_protocol.specs.Histories.{committed}
-use Rattle.pc_protocol.specs.Notes.{Note, published, verdict, IsTrueNote}
+use Rattle.pc_protocol.specs.Notes.{Note, published, verdict, in_run, IsTrueNote}
 use Rattle.pc_model.specs.Linked.{opening_cells}
 use Rattle.pc_words.specs.declared.word.WordKind.{WordKind}
 use Rattle.pc_words.specs.declared.word.WordKind.TheVariants.{Install, Exchange}
@@ -100,6 +100,7 @@ run_left c b form k words left sized w passes told = record {
       let known = true_of (published (code p a) e before) is in
       subst (λ (y : Exchanged). IsAmong (record { stamp = s; what = y }) (run_up_to w.history)) (sym (w.exchanges p a few known.0) ∙ known.1)
       (w.run.committed_stands p a s few (true_of (verdict (code p a) (committed s)) done).0);
+  read = λ s e has. w.run.item_stands s e (w.told (in_run s e) (subst (λ (l : List Note). Has l (in_run s e)) told has));
 }
 
 -- and no install stands in them

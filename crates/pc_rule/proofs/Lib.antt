@@ -13,4 +13,5 @@ pub mod Rooms
 pub mod Sharing
 pub mod Starting
 pub mod Telling
+pub mod Walking
 pub mod WordsAtOpening

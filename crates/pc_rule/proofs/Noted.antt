@@ -1,5 +1,5 @@
 -- What passes have noted of the run is put together as they are taken in.
-use Rattle.std.proofs.Common.{◌≡◌, ℕ, ◌+◌, List, [], ◌∷◌, ◌++◌, refl, sym, ap, ◌∙◌}
+use Rattle.std.proofs.Common.{◌≡◌, List, [], ◌∷◌, ◌++◌, sym, ap, ◌∙◌}
 use Rattle.pc_model.specs.declared.shape.Shape.{Ghosts}
 use Rattle.pc_protocol.specs.Notes.{Note}
 use Rattle.pc_rule.specs.declared.board.Pass.{Pass}

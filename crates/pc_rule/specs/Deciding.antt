@@ -25,7 +25,7 @@ SaysItSucceeded x p a new = (s : ℕ) × (new ≡ packed (record { number = a; s
 -- the status says that attempt a failed, for a cause of which the pass knows
 abbrev pub SaysItFailed : Whole → ℕ → ℕ → ℕ → Type 0
 SaysItFailed x p a new = (cause : Cause) × (new ≡ packed (record { number = a; stage = stage_by cause })) × StageInRange (stage_by cause)
-    × MayFail x.view x.knows p a cause
+    × MayFail x.knows p a cause
 
 -- the old status says that an attempt of the pass at seat p is undecided, and the new one that it took effect or failed
 abbrev pub MayDecide : Size → Whole → ℕ → ℕ → ℕ → Type 0

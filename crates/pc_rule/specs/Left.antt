@@ -12,7 +12,7 @@ use Rattle.pc_rule_law.specs.Board.{Board, board_in}
 use Rattle.pc_rule_law.specs.Past.{Has}
 use Rattle.pc_rule_law.specs.Values.{HasPlainValue}
 use Rattle.pc_protocol.specs.Histories.{committed}
-use Rattle.pc_protocol.specs.Notes.{Note, published, verdict}
+use Rattle.pc_protocol.specs.Notes.{Note, published, verdict, in_run}
 use Rattle.pc_exchange_law.specs.Ties.{code}
 use Rattle.pc_rule.specs.declared.board.Pass.{Pass}
 use Rattle.pc_rule.specs.declared.closed.Closed.{Closed}
@@ -39,7 +39,7 @@ module _ {H : Type 0} {S : Ghosts H} where
 
   -- The words that are left say the cells that a run leaves from these: exchanges by rising stamps, each of which stands in
   -- the cells that the earlier ones leave. An attempt of which the passes have noted its exchange, and that it took effect,
-  -- stands in it at its stamp.
+  -- stands in it at its stamp; and so does a read of which they have noted that it took effect.
   pub record IsLeftByRun (c : Closed H S) (opening : Cells) (passes : List (Pass H S)) : Type 0 where
     pub begin : Cells
     pub begins : (n : ℕ) (f : Field) → begin n f ≡ opening n f
@@ -48,6 +48,7 @@ module _ {H : Type 0} {S : Ghosts H} where
     pub leaves : LeavesCells c (cells_after begin run)
     pub won : (p a s b : ℕ) (e : Exchange) → p < 64 → Has (told_by passes) (published (code p a) e b)
         → Has (told_by passes) (verdict (code p a) (committed s)) → IsAmong (record { stamp = s; what = e }) run
+    pub read : (s : ℕ) (e : Exchange) → Has (told_by passes) (in_run s e) → IsAmong (record { stamp = s; what = e }) run
 
   -- an install stands in no word of a node
   abbrev pub HasNoInstall : Closed H S → Type 0

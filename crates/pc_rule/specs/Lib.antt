@@ -11,3 +11,4 @@ pub mod Recorded
 pub mod Shares
 pub mod Sizes
 pub mod Starting
+pub mod Walking

@@ -7,6 +7,7 @@ use Rattle.pc_rule_law.specs.declared.opening.Opening.{Opening}
 use Rattle.pc_rule_law.specs.Conditions.{IsFree}
 use Rattle.pc_rule_law.specs.Seats.{new_view}
 use Rattle.pc_rule_law.specs.Tables.{size_of}
+use Rattle.pc_exchange_law.specs.Paths.{new_path}
 use Rattle.pc_exchange_law.specs.Wholes.{Whole, knows_nothing}
 use Rattle.pc_exchange_law.specs.WholeSeats.{whole_maker}
 use Rattle.pc_rule.specs.declared.board.Board.{Board}
@@ -16,7 +17,7 @@ use Rattle.pc_rule.specs.Recorded.{HasRoomFor}
 
 -- what the last pass that was made knows, at its seat
 abbrev pub last_whole : Opening → ℕ → Whole
-last_whole o i = record { view = new_view (size_of o) i false []; knows = knows_nothing o.starts.attempt; aim = (0, 0) }
+last_whole o i = record { view = new_view (size_of o) i false []; knows = knows_nothing o.starts.attempt; aim = (0, 0); path = new_path }
 
 module _ {H : Type 0} {S : Ghosts H} where
   -- these passes have the seats from 0 on, none is the last one, and none recorded a call or lists a word

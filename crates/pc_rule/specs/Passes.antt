@@ -10,11 +10,14 @@ use Rattle.pc_rule_law.specs.Views.{View}
 use Rattle.pc_rule_law.specs.Plays.{IsWell}
 use Rattle.pc_rule_law.specs.Tables.{size_of}
 use Rattle.pc_exchange_law.specs.Passes.{PassKnows}
+use Rattle.pc_exchange_law.specs.Paths.{Path}
 use Rattle.pc_exchange_law.specs.Wholes.{Whole}
 use Rattle.pc_rule.specs.declared.board.Board.{Board}
 use Rattle.pc_rule.specs.declared.board.Pass.{Pass}
 use Rattle.pc_rule.specs.declared.opening.Place.{Place}
 use Rattle.pc_rule.specs.declared.share.Share.{Share}
+use Rattle.pc_rule.specs.declared.visit.Visit.{Visit}
+use Rattle.pc_rule.specs.Walking.{path_with}
 
 module _ {H : Type 0} where
   -- the size of a board
@@ -41,6 +44,13 @@ module _ {H : Type 0} {S : Ghosts H} where
 
   abbrev pub aim : Pass H S → ℕ × ℕ
   aim p = (whole p).aim
+
+  -- what it visited and read in its operation, and its visits
+  abbrev pub visits : Pass H S → List Visit
+  visits p = p.visits.items
+
+  abbrev pub path : Pass H S → Path
+  path p = path_with (visits p) (whole p).path
 
   -- what a pass has of its board, and the calls that it recorded
   abbrev pub share_of : Pass H S → Share
@@ -69,12 +79,24 @@ module _ {H : Type 0} {S : Ghosts H} where
       × (share_of new ≡ share_of old) × (new.entries ≡ old.entries)
 
   -- and it lists the same words
+  abbrev pub StaysSeated : Pass H S → Pass H S → Type 0
+  StaysSeated old new = IsSeatedAs old new × (new.listed ≡ old.listed)
+
+  -- it has visited and read the same
+  abbrev pub KeepsPath : Pass H S → Pass H S → Type 0
+  KeepsPath old new = ((whole new).path ≡ (whole old).path) × (new.visits ≡ old.visits)
+
+  -- the pass is where it was, lists the same words, and has visited and read the same
   abbrev pub IsSamePass : Pass H S → Pass H S → Type 0
-  IsSamePass old new = IsSeatedAs old new × (new.listed ≡ old.listed)
+  IsSamePass old new = IsSeatedAs old new × (new.listed ≡ old.listed) × KeepsPath old new
 
   -- nothing but its list changed
   abbrev pub OnlyListed : Pass H S → Pass H S → Type 0
-  OnlyListed old new = (new.seat ≡ old.seat) × (share_of new ≡ share_of old) × (new.entries ≡ old.entries)
+  OnlyListed old new = (new.seat ≡ old.seat) × (share_of new ≡ share_of old) × (new.entries ≡ old.entries) × (new.visits ≡ old.visits)
+
+  -- nothing but its visits changed
+  abbrev pub OnlyVisited : Pass H S → Pass H S → Type 0
+  OnlyVisited old new = (new.seat ≡ old.seat) × (share_of new ≡ share_of old) × (new.entries ≡ old.entries) × (new.listed ≡ old.listed)
 
 -- the number of the own install after a store to this word of its descriptor
 abbrev pub number_after : ℕ → ℕ → ℕ → ℕ

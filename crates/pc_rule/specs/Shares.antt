@@ -11,8 +11,9 @@ use Rattle.pc_rule_law.specs.Views.{Note}
 use Rattle.pc_rule.specs.declared.board.Board.{Board}
 use Rattle.pc_rule.specs.declared.board.Pass.{Pass}
 use Rattle.pc_rule.specs.declared.share.Share.{Share}
+use Rattle.pc_exchange_law.specs.Paths.{new_path}
 use Rattle.pc_exchange_law.specs.Wholes.{knows_nothing}
-use Rattle.pc_rule.specs.Passes.{view, knows, board_size, listed}
+use Rattle.pc_rule.specs.Passes.{view, knows, board_size, listed, visits, path}
 use Rattle.pc_rule.specs.Opened.{AreInOrder}
 use Rattle.pc_rule.specs.Recorded.{HasRoomFor}
 
@@ -53,6 +54,10 @@ module _ {H : Type 0} {S : Ghosts H} where
   -- each pass knows nothing beside its view
   abbrev pub KnowNothing : List (Pass H S) → Type 0
   KnowNothing passes = (i : ℕ) (p : Pass H S) → get_elem? passes i ≡ some p → knows p ≡ knows_nothing (view p).size.starts.attempt
+
+  -- each pass has begun an operation, as long as passes come so, and has visited nothing
+  abbrev pub NoneVisited : List (Pass H S) → Type 0
+  NoneVisited passes = (i : ℕ) (p : Pass H S) → get_elem? passes i ≡ some p → (path p ≡ new_path) × (visits p ≡ [])
 
   -- each pass may publish: no exchange was given at the opening, it has made no attempt, stored no word of its descriptor,
   -- and lists no word

@@ -4,9 +4,11 @@ ghost use Rattle.pc_rule_law.specs.Board.{words_of};
 ghost use Rattle.pc_rule_law.specs.Tables.{size_of};
 ghost use Rattle.pc_rule.specs.Attempts.{AgreeOnAttempt};
 ghost use Rattle.pc_rule.specs.Listed.{AreListed};
+ghost use Rattle.pc_rule.specs.Walking.{HoldsPath};
 
 use crate::opening::Place;
 use crate::share::Share;
+use crate::visit::Visit;
 use atomic_table::{Seat, Table};
 use pc_exchange_law::{WholeLaw, WholeView};
 use pc_model::{Entry, Shape};
@@ -29,8 +31,8 @@ pub struct Board<H: Shape> {
     ghost small: { (seats ≤ 32) × (slots ≤ 61000) },
 }
 
-/// A seat at a board, with what its pass knows, the calls that it recorded, and the words that it lists for its exchange. The
-/// pass with the highest seat has room for the calls of all passes, which it takes in at the closing.
+/// A seat at a board, with what its pass knows, the calls that it recorded, the words that it lists for its exchange, and the
+/// nodes that it visited in the operation that it has begun. The pass with the highest seat has room for the calls of all passes, which it takes in at the closing.
 #[derive(Drop)]
 pub struct Pass<H: Shape> {
     pub(crate) seat: Seat<bool, WholeView>,
@@ -41,6 +43,8 @@ pub struct Pass<H: Shape> {
     pub(crate) share: Share,
     pub(crate) entries: Vec<Entry>,
     pub(crate) listed: Vec<Place>,
+    pub(crate) begun: bool,
+    pub(crate) visits: Vec<Visit>,
     pub(crate) shape: PhantomData<H>,
     ghost live: { seat.me.0.view.live ≡ true },
     ghost numbered: { seat.me.0.view.seat ≡ index },
@@ -53,4 +57,5 @@ pub struct Pass<H: Shape> {
     ghost roomy: { share.calls ≤ vec_capacity entries },
     ghost ample: { 24 ≤ vec_capacity listed },
     ghost listing: { AreListed seat.me.0.view.size.slots listed.items },
+    ghost walking: { HoldsPath seat.me.0 begun visits.items (vec_capacity visits) },
 }

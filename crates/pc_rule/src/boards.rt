@@ -3,7 +3,7 @@ ghost use Rattle.std.specs.Prelude.{IfOk, ◌≡◌, ◌<◌, ◌≤◌, ◌^◌
 ghost use Rattle.pc_model.specs.Forms.{IsSound};
 ghost use Rattle.pc_model.specs.Linked.{opening_cells};
 ghost use Rattle.pc_rule.specs.Passes.{board_size};
-ghost use Rattle.pc_rule.specs.Shares.{slots_of, size_for, AreStarts, AreAll, AllNoted, NoneInstalled, NoneTried, KnowNothing};
+ghost use Rattle.pc_rule.specs.Shares.{slots_of, size_for, AreStarts, AreAll, AllNoted, NoneInstalled, NoneTried, NoneVisited, KnowNothing};
 ghost use Rattle.pc_rule.specs.Recorded.{HaveShares};
 
 use crate::board::{Board, Pass};
@@ -62,6 +62,7 @@ pub fn open_board<H: Shape>(
     ensures installed { IfOk result (λ r. NoneInstalled r.1.items) }
     ensures tried { IfOk result (λ r. NoneTried r.1.items) }
     ensures knows { IfOk result (λ r. KnowNothing r.1.items) }
+    ensures visited { IfOk result (λ r. NoneVisited r.1.items) }
 {
     let opening = Opening {
         seats: shares.len(),

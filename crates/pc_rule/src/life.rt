@@ -23,6 +23,7 @@ use crate::listed::list_room;
 use crate::opening::{Place, words_start};
 use crate::recorded::room_for;
 use crate::share::Share;
+use crate::visit::{Visit, visit_room};
 use atomic_table::{Closed, Table};
 use pc_exchange_law::{WholeJoinPass, WholeLaw, WholeMakePass, WholeView};
 use pc_model::{Entry, Shape};
@@ -47,6 +48,7 @@ impl<H: Shape> Board<H> {
     {
         let entries = room_for(alloc, shares, 0)?;
         let listed = list_room(alloc)?;
+        let visits = visit_room(alloc, opening.slots)?;
         let mut kept = Vec::new(alloc);
         kept.extend_from_slice(shares)?;
         let words = words_start(alloc, opening)?;
@@ -71,12 +73,14 @@ impl<H: Shape> Board<H> {
             share: shares[0],
             entries,
             listed,
+            begun: true,
+            visits,
             shape: PhantomData,
         };
         Ok((board, pass))
     }
 
-    /// The last pass makes another, with this share and this room for its calls and for its words.
+    /// The last pass makes another, with this share and this room for its calls, for its words and for its visits.
     fn another(
         &self,
         last: &mut Pass<H>,
@@ -84,12 +88,14 @@ impl<H: Shape> Board<H> {
         share: Share,
         entries: Vec<Entry>,
         places: Vec<Place>,
+        visits: Vec<Visit>,
     ) -> Pass<H>
         requires pass { IsPassOf self.now last.old × ((view last.old).last ≡ true) }
         requires index { ((view last.old).seat + 1 ≡ index) × (index < (board_size self.now).seats) }
         requires share { get_elem? self.now.shares.items index ≡ some share }
         requires room { (entries.items ≡ []) × (share.calls ≤ vec_capacity entries) }
         requires list { (places.items ≡ []) × (24 ≤ vec_capacity places) }
+        requires visits { (visits.items ≡ []) × ((board_size self.now).slots + 1 ≤ vec_capacity visits) }
         ensures pass { IsPassOf self.now last.new × (whole last.new ≡ whole_maker (whole last.old)) }
         ensures kept { (recorded last.new ≡ recorded last.old) × (listed last.new ≡ listed last.old) }
         ensures made { IsPassOf self.now result × (whole result ≡ whole_made (whole last.old)) }
@@ -109,6 +115,8 @@ impl<H: Shape> Board<H> {
             share,
             entries,
             listed: places,
+            begun: true,
+            visits,
             shape: PhantomData,
         }
     }
@@ -131,7 +139,15 @@ impl<H: Shape> Board<H> {
         while made + 1 < opening.seats {
             let entries = room_for(alloc, shares, made + 1)?;
             let listed = list_room(alloc)?;
-            let next = board.another(&mut last, made + 1, shares[made + 1], entries, listed);
+            let visits = visit_room(alloc, opening.slots)?;
+            let next = board.another(
+                &mut last,
+                made + 1,
+                shares[made + 1],
+                entries,
+                listed,
+                visits,
+            );
             passes.push_reserved(last);
             last = next;
             made += 1;

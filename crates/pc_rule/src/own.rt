@@ -1,6 +1,6 @@
 //! What a pass knows of itself.
-ghost use Rattle.std.specs.Prelude.{◌≡◌, ◌<◌};
-ghost use Rattle.pc_rule.specs.Passes.{view, IsPassOf};
+ghost use Rattle.std.specs.Prelude.{◌≡◌, ◌<◌, ◌≤◌};
+ghost use Rattle.pc_rule.specs.Passes.{view, board_size, IsPassOf};
 
 use crate::board::{Board, Pass};
 use pc_model::Shape;
@@ -22,6 +22,14 @@ impl<H: Shape> Pass<H> {
 }
 
 impl<H: Shape> Board<H> {
+    /// How many passes it is for.
+    pub fn passes(&self) -> u32
+        ensures number { result ≡ (board_size self.now).seats }
+        ensures small { result ≤ 32 }
+    {
+        self.seats as u32
+    }
+
     /// The seat of one of the board's passes, from 0.
     pub fn seat_of(&self, pass: &Pass<H>) -> u32
         requires { IsPassOf self.now pass.now }

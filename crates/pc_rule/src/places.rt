@@ -1,7 +1,7 @@
 //! Where the words of a board lie.
 ghost use Rattle.std.specs.Prelude.{◌≡◌, ℕ, ◌+◌, ◌*◌, ◌/◌, ◌<◌, ◌≤◌};
 ghost use Rattle.pc_model.specs.Cells.{field_number, IsNode};
-ghost use Rattle.pc_rule_law.specs.Board.{Size, at_cell, place_number, address, stride, owns_begin};
+ghost use Rattle.pc_rule_law.specs.Board.{Size, at_epoch, at_cell, place_number, address, stride, owns_begin};
 ghost use Rattle.pc_rule.specs.Passes.{board_size};
 
 use crate::board::Board;
@@ -46,6 +46,13 @@ impl<H: Shape> Board<H> {
         ensures { result ≡ address (board_size self.now) (at_cell node field) }
     {
         cell_place(node, field)
+    }
+
+    /// Where the epoch lies.
+    pub(crate) fn epoch_word(&self) -> usize
+        ensures { result ≡ address (board_size self.now) at_epoch }
+    {
+        16 + 8 * self.slots
     }
 
     /// Where a word of a pass lies, at this place among its words.

@@ -1,8 +1,8 @@
 //! What a pass has of a board, and the calls that it recorded.
-ghost use Rattle.std.specs.Prelude.{IfOk, ◌≡◌, [], ◌+◌, ◌-◌, ◌<◌, ◌≤◌, false, None, length, vec_capacity};
+ghost use Rattle.std.specs.Prelude.{IfOk, ◌≡◌, [], ◌+◌, ◌-◌, ◌<◌, ◌≤◌, false, not, None, length, vec_capacity};
 ghost use mathlib.Core.Option.{some};
 ghost use lib.ListN.{get_elem?};
-ghost use Rattle.pc_rule.specs.Passes.{view, share_of, recorded};
+ghost use Rattle.pc_rule.specs.Passes.{view, path, share_of, recorded};
 ghost use Rattle.pc_rule.specs.Recorded.{calls_of};
 ghost use Rattle.pc_rule.specs.declared.share.Share.{Share as Part};
 
@@ -91,11 +91,11 @@ impl<H: Shape> Pass<H> {
         0
     }
 
-    /// Whether it is at rest: never, until passes start. It is open from the opening of its board to the closing.
+    /// Whether it is at rest: it has begun no operation, or ended the last one. A pass comes with one begun, for now.
     pub fn at_rest(&self) -> bool
-        ensures { result ≡ false }
+        ensures { result ≡ not (path self.now).begun }
     {
-        false
+        !self.begun
     }
 
     /// Whether it has published an exchange that isn't finished.

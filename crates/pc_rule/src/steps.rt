@@ -4,7 +4,7 @@ ghost use Rattle.std.specs.Prelude.{◌≡◌, ◌-◌, ◌<◌};
 ghost use Rattle.pc_rule_law.specs.Conditions.{CanStore};
 ghost use Rattle.pc_rule_law.specs.Plays.{after_store, InstallLoaded, InstallTried, StatusLoaded, InstallTaken};
 ghost use Rattle.pc_exchange_law.specs.Knowing.{StatusSeen};
-ghost use Rattle.pc_exchange_law.specs.WholePlays.{CellSeen, WordSwapped};
+ghost use Rattle.pc_exchange_law.specs.WholePlays.{CellSeen, IsNotCleared, OldDiffers, OwnVerdict, WordSwapped};
 ghost use Rattle.pc_rule.specs.Conditions.{MayPlaceInstall, MayTakeInstall};
 ghost use Rattle.pc_rule.specs.Passes.{whole, view, knows, aim, board_size, IsPassOf, IsSamePass, HasNode, HasPass, number_after};
 ghost use Rattle.pc_words.specs.Statuses.{IsStatus, unpacked};
@@ -88,6 +88,8 @@ pub fn step_6<H: Shape>(
     ensures pass { IsSamePass pass.old pass.new }
     ensures told { InstallTried (view pass.old) node field old result (view pass.new) }
     ensures learnt { WordSwapped (whole pass.old) node field old new result (whole pass.new) }
+    ensures outdated { OldDiffers (whole pass.old) node result old (whole pass.new) }
+    ensures present { IsNotCleared (whole pass.old) result }
 {
     let word = board.cell_word(node, field);
     board
@@ -105,6 +107,7 @@ pub fn step_7<H: Shape>(board: &Board<H>, pass: &mut Pass<H>, of: u32) -> u64
     ensures told { StatusLoaded (view pass.old) (of - 1) (unpacked result) (view pass.new) }
     ensures learnt { StatusSeen (knows pass.old) (of - 1) (unpacked result) (knows pass.new) }
     ensures aim { aim pass.new ≡ (of - 1, (unpacked result).number) }
+    ensures own { OwnVerdict (whole pass.old) (of - 1) (unpacked result) (whole pass.new) }
 {
     let word = board.own_word(of as usize - 1, 0);
     board

@@ -16,7 +16,7 @@ use Rattle.pc_rule_law.specs.Past.{Has, Placing, Past, change, placing_word}
 use Rattle.pc_rule_law.specs.Stages.{IsUndecided, DecidedBelow}
 use Rattle.pc_rule_law.specs.Views.{Note, placed, install_word, removed, clean, IsClean, View, NoteHolds, IsInstall, AllNotes, with_notes}
 use Rattle.pc_rule_law.specs.Rule.{Standing, CellOk, Placed, Own, Shared, Holds}
-use Rattle.pc_rule_law.specs.Conditions.{CanPlace}
+use Rattle.pc_rule_law.specs.Conditions.{IsFree, CanPlace}
 use Rattle.pc_rule_law.specs.Plays.{Mine, SameSeat, InstallTried, InstallPlaced, found, own_notes, after_place, PlacedInstall, places_install}
 use Rattle.pc_rule_law.specs.Tables.{KeepsOpening}
 use Rattle.pc_rule_law.proofs.Lists.{all_more, all_none}
@@ -213,8 +213,22 @@ module _ (sound : ℕ → Cells → Type 0) (z : Size) where
       subst (CellOk z.seats b.status h.attempt h.placing h.course (h.plain n f) n f) is (s.each_cell n f) in
       let one : h.course q j ≡ 1 = st.stands in let two : 2 ≤ h.course q j = (good (removed q j) has).0 in omega arith
 
+  -- no install of the pass stands where it is free
+  pub none_own : (b : Board) (h : Past) (id : ℕ) (v : View) (n : ℕ) (f : Field) → Shared sound z b h → Own z b.install h.course id v
+      → AllNotes (NoteHolds z b h) v.notes → IsFree v → (q j : ℕ) → b.cell n f ≡ Install q j → q ≢ v.seat
+  none_own b h id v n f s own good free q j is mine = ⊎_elim
+      (λ fresh. not_own sound z b h id v n f s own fresh q j is (mine ∙ own.seated.0))
+      (λ gone.
+      let st : Standing h.placing h.course (h.plain n f) n f q j =
+      subst (CellOk z.seats b.status h.attempt h.placing h.course (h.plain n f) n f) is (s.each_cell n f) in
+      let one : h.course q j ≡ 1 = st.stands in
+      let y = s.installs q j (omega arith) in
+      let number : v.install.number ≡ j = sym (own.known 0 (omega arith))
+      ∙ (ap (λ (i : ℕ). b.install i 0) (sym (mine ∙ own.seated.0)) ∙ y.present st.stands) in
+      not_removed b h v n f s good q j is (subst (λ (i : ℕ × ℕ). Has v.notes (removed i.0 i.1)) (λ i. (sym mine i, number i)) gone)) free
+
   -- a word that is clean of an attempt doesn't hold its reference
-  not_clean : (b : Board) (h : Past) (v : View) (n : ℕ) (f : Field) → AllNotes (NoteHolds z b h) v.notes
+  pub not_clean : (b : Board) (h : Past) (v : View) (n : ℕ) (f : Field) → AllNotes (NoteHolds z b h) v.notes
       → (p a : ℕ) → b.cell n f ≡ Exchange p a → Has v.notes (clean p a n f) → ⊥
   not_clean b h v n f good p a is has = let no : p ≡ p → a ≢ a = subst (IsClean h.placing p a) is (good (clean p a n f) has).0.1 in no refl refl
 

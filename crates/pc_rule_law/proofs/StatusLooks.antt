@@ -1,11 +1,17 @@
 -- The load of a status: which attempts of the pass are decided. Where the present one isn't, each install that is
--- known to be for it was placed while it was undecided, since a number is undecided only once.
-use Rattle.std.proofs.Common.{◌≡◌, ℕ, zero, suc, ◌+◌, ◌*◌, ◌^◌, ◌<◌, ◌≤◌, Bool, true, false, ◌==◌, List, [], ◌∷◌, ◌++◌, length, refl, sym, ap, ◌∙◌, subst, eqb-true, eq-eqb, arith}
+-- known to be for it was placed while it was undecided, since a number is undecided only once. A word in which an attempt was
+-- met that is cleared by now is clean of it, since a reference stands, and an early install too, only until then.
+use Rattle.std.proofs.Common.{◌≡◌, ℕ, zero, suc, ◌+◌, ◌*◌, ◌^◌, ◌<◌, ◌≤◌, Bool, true, false, ◌==◌, List, [], ◌∷◌, ◌++◌, length, refl, sym, ap, ◌∙◌, subst, ⊎_elim, nat_lt, eqb-true, eq-eqb, arith}
+use Rattle.std.proofs.lemmas.Bool.{ltb-true, lt-ltb}
+use mathlib.Core.Logic.{dite}
 use mathlib.Core.Option.{none}
+use native.Mathlib.Decide.{ℕ_discrete}
 use Rattle.atomic_table.specs.Table.{step, Allows}
+use Rattle.pc_model.specs.declared.cell.Field.{Field}
 use Rattle.pc_model.specs.Cells.{Cells}
 use Rattle.pc_model.specs.Exchanges.{Visited}
-use Rattle.pc_words.specs.declared.word.WordKind.TheVariants.{Exchange}
+use Rattle.pc_words.specs.declared.word.WordKind.{WordKind}
+use Rattle.pc_words.specs.declared.word.WordKind.TheVariants.{Plain, Install, Exchange}
 use Rattle.pc_words.specs.declared.status.Stage.{Stage}
 use Rattle.pc_words.specs.declared.status.Stage.TheVariants.{Idle, Undecided, Succeeded, Withdrawn, Changed, Locked}
 use Rattle.pc_words.specs.declared.status.Status.{Status}
@@ -14,14 +20,14 @@ use Rattle.pc_words.specs.Statuses.{packed, unpacked}
 use Rattle.pc_words.proofs.Statuses.{unpacked_packed}
 use Rattle.pc_rule_law.specs.Board.{Size, own_status, at_own, address, Inside, Board}
 use Rattle.pc_rule_law.specs.Past.{Has, Past, placing_word}
-use Rattle.pc_rule_law.specs.Stages.{IsIdle, IsOpen, IsUndecided, decided_from, decided_by}
-use Rattle.pc_rule_law.specs.Views.{Note, entry, install_word, early, decided_below, held, word_loaded, attempt_word, View, NoteHolds, AllNotes, with_notes}
-use Rattle.pc_rule_law.specs.Rule.{Known, Shared, Holds}
+use Rattle.pc_rule_law.specs.Stages.{IsIdle, IsOpen, IsUndecided, decided_from, decided_by, IsCleared}
+use Rattle.pc_rule_law.specs.Views.{Note, entry, install_word, early, decided_below, held, clean, word_loaded, attempt_word, View, IsClean, NoteHolds, AllNotes, with_notes}
+use Rattle.pc_rule_law.specs.Rule.{CellOk, Known, Shared, Holds}
 use Rattle.pc_rule_law.specs.Plays.{Mine, SameSeat, StatusLoaded, IsPlaceIn, LoadedStatus, loads_status}
 use Rattle.pc_rule_law.proofs.Lists.{element_at, all_none, all_more, all_both, has_left, has_right, has_first, has_later}
 use Rattle.pc_rule_law.proofs.Keeping.{noted_more}
 use Rattle.pc_rule_law.proofs.Learning.{learnt, has_learnt, all_learnt, only_if, has_only_if, all_only_if, when, has_if_same, all_if_same, has_when, all_when, later_more}
-use Rattle.pc_rule_law.proofs.Stages.{decided_not_undecided}
+use Rattle.pc_rule_law.proofs.Stages.{open_not_idle, unmade_not_idle, decided_not_undecided}
 use Rattle.pc_rule_law.proofs.Steps.{Looks, looked}
 
 -- whether a stage is undecided
@@ -58,6 +64,18 @@ decided_so k Withdrawn = (omega arith, λ e o. o)
 decided_so k (Changed n) = (omega arith, λ e o. o)
 decided_so k (Locked n p) = (omega arith, λ e o. o)
 
+-- and an attempt that is decided by a status is so by what it says
+decided_as_said : (k m : ℕ) (s : Stage) → m ≤ k + 1 → (m ≡ k + 1 → IsOpen s → ⊥) → m ≤ decided_from k s
+decided_as_said k m Idle le over = le
+decided_as_said k m Undecided le over = below_or_last (λ is. over is tt)
+  where
+    below_or_last : (m ≡ k + 1 → ⊥) → m ≤ k
+    below_or_last ne = dite (ℕ_discrete m (k + 1)) (λ is. absurd (ne is)) (λ other. let ne' = other in omega arith)
+decided_as_said k m (Succeeded t) le over = le
+decided_as_said k m Withdrawn le over = le
+decided_as_said k m (Changed n) le over = le
+decided_as_said k m (Locked n p) le over = le
+
 -- what a load of the status of p tells, of each note: attempt m is undecided
 abbrev learn_status : ℕ → ℕ → Note → List Note
 learn_status p m (install_word q k (suc zero) x) = only_if (x == raw (Exchange p m)) (early q k)
@@ -92,6 +110,49 @@ is_busy_then (Succeeded t) e i = i
 is_busy_then Withdrawn e i = i
 is_busy_then (Changed n) e i = i
 is_busy_then (Locked n p) e i = i
+
+-- the attempts with numbers below this one are cleared, as a status says
+abbrev cleared_from : ℕ → Stage → ℕ
+cleared_from k Idle = k + 1
+cleared_from k Undecided = k
+cleared_from k (Succeeded t) = k
+cleared_from k Withdrawn = k
+cleared_from k (Changed n) = k
+cleared_from k (Locked n p) = k
+
+last_idle : (k : ℕ) (s : Stage) → IsIdle s → k < cleared_from k s
+last_idle k Idle i = omega arith
+last_idle k Undecided i = absurd i
+last_idle k (Succeeded t) i = absurd i
+last_idle k Withdrawn i = absurd i
+last_idle k (Changed n) i = absurd i
+last_idle k (Locked n p) i = absurd i
+
+past_ones : (k a : ℕ) (s : Stage) → a < k → a < cleared_from k s
+past_ones k a Idle lt = omega arith
+past_ones k a Undecided lt = lt
+past_ones k a (Succeeded t) lt = lt
+past_ones k a Withdrawn lt = lt
+past_ones k a (Changed n) lt = lt
+past_ones k a (Locked n p) lt = lt
+
+-- of the last one that is cleared: it isn't the present one, or that is idle
+cleared_so : (k a : ℕ) (s : Stage) → a < cleared_from k s → (a ≤ k) × (k ≡ a → IsIdle s)
+cleared_so k a Idle lt = (omega arith, λ _. tt)
+cleared_so k a Undecided lt = (omega arith, λ e. absurd (omega arith))
+cleared_so k a (Succeeded t) lt = (omega arith, λ e. absurd (omega arith))
+cleared_so k a Withdrawn lt = (omega arith, λ e. absurd (omega arith))
+cleared_so k a (Changed n) lt = (omega arith, λ e. absurd (omega arith))
+cleared_so k a (Locked n p) lt = (omega arith, λ e. absurd (omega arith))
+
+below_cleared : (s : Status) (a : ℕ) → IsCleared s a → a < cleared_from s.number s.stage
+below_cleared s a c = ⊎_elim (λ lt. past_ones s.number a s.stage lt)
+    (λ last. subst (λ (i : ℕ). i < cleared_from s.number s.stage) (sym last.0) (last_idle s.number s.stage last.1)) c
+
+-- of each word in which an attempt was met, that it is clean of it where the attempt's number is below m
+abbrev learn_cleans : ℕ → ℕ → Note → List Note
+learn_cleans p m (held q a n f) = when (q == p) (only_if (nat_lt a m) (clean q a n f))
+learn_cleans p m _ = []
 
 bool_cases : (P : Type 0) (c : Bool) → (c ≡ true → P) → (c ≡ false → P) → P
 bool_cases P true t f = t refl
@@ -137,6 +198,35 @@ module _ (sound : ℕ → Cells → Type 0) (z : Size) (b : Board) (h : Past) (f
       )))
   words_learnt p busy _ g = all_none (NoteHolds z b h)
 
+  -- a word is clean of an attempt that is cleared
+  clean_of : (p a n : ℕ) (f : Field) → ((b.status p).number ≡ a → IsIdle (b.status p).stage) → (c : WordKind)
+      → CellOk z.seats b.status h.attempt h.placing h.course (h.plain n f) n f c → IsClean h.placing p a c
+  clean_of p a n f over (Plain x) ok = tt
+  clean_of p a n f over (Install q k) ok = λ seat number early.
+      let y = s.installs q k (let e : h.course q k ≡ 1 = ok.stands in omega arith) in let there = y.alive ok.stands early in
+      let to_p : ℕ × ℕ → Type 0 = λ i. ((b.status i.0).number ≡ i.1) × (IsIdle (b.status i.0).stage → ⊥) in
+      let now = subst to_p (λ j. (seat j, number j)) (there.0, unmade_not_idle (b.status (h.placing q k).seat).stage there.1) in
+      now.1 (over now.0)
+  clean_of p a n f over (Exchange q c) ok = λ seat number.
+      let to_p : ℕ × ℕ → Type 0 = λ i. ((b.status i.0).number ≡ i.1) × (IsIdle (b.status i.0).stage → ⊥) in
+      let now = subst to_p (λ j. (seat j, number j)) (ok.present, ok.uncleared) in now.1 (over now.0)
+
+  cleans_learnt : (p : ℕ) (x : Note) → NoteHolds z b h x
+      → AllNotes (NoteHolds z b h) (learn_cleans p (cleared_from (b.status p).number (b.status p).stage) x)
+  cleans_learnt p (held q a n f) g = let st : Status = b.status p in let m : ℕ = cleared_from st.number st.stage in
+      all_when (NoteHolds z b h) (q == p) (only_if (nat_lt a m) (clean q a n f))
+      (λ e. all_only_if (NoteHolds z b h) (nat_lt a m) (clean q a n f) (λ d.
+      let seat : p ≡ q = sym (eqb-true q p e) in let so = cleared_so st.number a st.stage (ltb-true a m d) in
+      let at_q = subst (λ (i : ℕ). (a ≤ (b.status i).number) × ((b.status i).number ≡ a → IsIdle (b.status i).stage)) seat so in
+      let le = at_q.0 in (
+        (
+          (omega arith, λ last o. open_not_idle (b.status q).stage o (at_q.1 (omega arith))),
+          clean_of q a n f at_q.1 (b.cell n f) (s.each_cell n f),
+        ),
+        g.1,
+      )))
+  cleans_learnt p _ g = all_none (NoteHolds z b h)
+
   -- what was loaded of the present attempt, which isn't cleared, is what that has
   word_stands : (p place x : ℕ) → (IsIdle (b.status p).stage → ⊥) → NoteHolds z b h (word_loaded p (b.status p).number place x)
       → h.words p (b.status p).number place ≡ x
@@ -171,7 +261,8 @@ module _ (sound : ℕ → Cells → Type 0) (z : Size) (b : Board) (h : Past) (f
   -- what a load of a status adds to what the pass knows
   abbrev pub learnt_of_status : View → ℕ → List Note
   learnt_of_status v p = when (is_open (b.status p).stage) (learnt (learn_status p (b.status p).number) v.notes)
-      ++ when (is_busy (b.status p).stage) (learnt (learn_words p (b.status p).number) v.notes)
+      ++ (when (is_busy (b.status p).stage) (learnt (learn_words p (b.status p).number) v.notes)
+      ++ learnt (learn_cleans p (cleared_from (b.status p).number (b.status p).stage)) v.notes)
 
   status_loaded : (id : ℕ) (v : View) (more : List Note) (p : ℕ) → p < z.seats → v.live ≡ true → Known z b h id v
       → more ≡ decided_below p (decided_by (b.status p)) ∷ learnt_of_status v p
@@ -181,12 +272,15 @@ module _ (sound : ℕ → Cells → Type 0) (z : Size) (b : Board) (h : Past) (f
       let first = decided_below p (decided_by (b.status p)) in
       let opened = when (is_open (b.status p).stage) (learnt (learn_status p m) v.notes) in
       let settled = when (is_busy (b.status p).stage) (learnt (learn_words p m) v.notes) in
-      let more' = opened ++ settled in record {
+      let to : ℕ = cleared_from m (b.status p).stage in
+      let cleans = learnt (learn_cleans p to) v.notes in
+      let more' = opened ++ (settled ++ cleans) in record {
         later = later_more v more;
         decided = (more, refl, subst (λ (l : List Note). Has l first) (sym is) (has_first first more'));
+        still_decided = λ c has. let g = (good (decided_below p c) has).0 in decided_as_said m c (b.status p).stage g.0 g.1;
         undecided = λ o q k has. has_left more v.notes (early q k)
             (subst (λ (l : List Note). Has l (early q k)) (sym is) (has_later first more' (early q k)
-            (has_left opened settled (early q k)
+            (has_left opened (settled ++ cleans) (early q k)
             (has_when (is_open (b.status p).stage) (learnt (learn_status p m) v.notes) (early q k)
             (open_is (b.status p).stage o)
             (has_learnt (learn_status p m) v.notes (install_word q k 1 (raw (Exchange p m))) (early q k) has
@@ -198,13 +292,21 @@ module _ (sound : ℕ → Cells → Type 0) (z : Size) (b : Board) (h : Past) (f
         held_below = λ a n f has. (good (held p a n f) has).0.0;
         settles = λ busy place x has. has_left more v.notes (attempt_word p m place x)
             (subst (λ (l : List Note). Has l (attempt_word p m place x)) (sym is)
-            (has_later first more' (attempt_word p m place x) (has_right opened settled (attempt_word p m place x)
+            (has_later first more' (attempt_word p m place x) (has_right opened (settled ++ cleans) (attempt_word p m place x)
+            (has_left settled cleans (attempt_word p m place x)
             (has_when (is_busy (b.status p).stage) (learnt (learn_words p m) v.notes) (attempt_word p m place x)
             (busy_is (b.status p).stage busy)
             (has_learnt (learn_words p m) v.notes (word_loaded p m place x) (attempt_word p m place x) has
             (has_when (p == p) (only_if (m == m) (attempt_word p m place x)) (attempt_word p m place x) (eq-eqb p p refl)
-            (has_only_if (m == m) (attempt_word p m place x) (eq-eqb m m refl))))))));
+            (has_only_if (m == m) (attempt_word p m place x) (eq-eqb m m refl)))))))));
         words_below = λ a place x has. (good (attempt_word p a place x) has).0.0;
+        cleared = λ a n f has over. has_left more v.notes (clean p a n f)
+            (subst (λ (l : List Note). Has l (clean p a n f)) (sym is)
+            (has_later first more' (clean p a n f) (has_right opened (settled ++ cleans) (clean p a n f)
+            (has_right settled cleans (clean p a n f)
+            (has_learnt (learn_cleans p to) v.notes (held p a n f) (clean p a n f) has
+            (has_when (p == p) (only_if (nat_lt a to) (clean p a n f)) (clean p a n f) (eq-eqb p p refl)
+            (has_only_if (nat_lt a to) (clean p a n f) (lt-ltb a to (below_cleared (b.status p) a over)))))))));
         counts = λ busy count has. subst (λ (y : Size). count ≤ 25 + y.slots) (sym (mine.own live).sized)
             (count_ranged p count busy (good (word_loaded p m 1 count) has));
         visits = λ busy count has. visits_none p count busy (good (word_loaded p m 2 count) has);
@@ -226,7 +328,8 @@ module _ (sound : ℕ → Cells → Type 0) (z : Size) where
       let first = decided_below p (decided_by st) in
       let opened = when (is_open st.stage) (learnt (learn_status p st.number) v.notes) in
       let settled = when (is_busy st.stage) (learnt (learn_words p st.number) v.notes) in
-      let more = first ∷ (opened ++ settled) in
+      let cleans = learnt (learn_cleans p (cleared_from st.number st.stage)) v.notes in
+      let more = first ∷ (opened ++ (settled ++ cleans)) in
       let good : AllNotes (NoteHolds z b h) v.notes = mine.noted in
       let small = k.shared.statuses p in
       let same : unpacked (packed st) ≡ st = unpacked_packed st small in
@@ -234,14 +337,17 @@ module _ (sound : ℕ → Cells → Type 0) (z : Size) where
       let here : NoteHolds z b h first = (now, (in_p.0, (let le = now.0 in omega arith))) in (
         with_notes v more,
         noted_more sound z b h views id v more k at live
-            (all_more (NoteHolds z b h) first (opened ++ settled) here
-            (all_both (NoteHolds z b h) opened settled
+            (all_more (NoteHolds z b h) first (opened ++ (settled ++ cleans)) here
+            (all_both (NoteHolds z b h) opened (settled ++ cleans)
             (all_when (NoteHolds z b h) (is_open st.stage) (learnt (learn_status p st.number) v.notes)
             (λ o. all_learnt (NoteHolds z b h) (learn_status p st.number) v.notes
             (λ x has. status_learnt sound z b h k.few k.shared p in_p.0 (is_open_then st.stage o) x (good x has))))
+            (all_both (NoteHolds z b h) settled cleans
             (all_when (NoteHolds z b h) (is_busy st.stage) (learnt (learn_words p st.number) v.notes)
             (λ o. all_learnt (NoteHolds z b h) (learn_words p st.number) v.notes
-            (λ x has. words_learnt sound z b h k.few k.shared p (is_busy_then st.stage o) x (good x has)))))),
+            (λ x has. words_learnt sound z b h k.few k.shared p (is_busy_then st.stage o) x (good x has))))
+            (all_learnt (NoteHolds z b h) (learn_cleans p (cleared_from st.number st.stage)) v.notes
+            (λ x has. cleans_learnt sound z b h k.few k.shared p x (good x has)))))),
         (
           (refl, refl, refl, refl, refl),
           (

@@ -13,7 +13,7 @@ use Rattle.pc_words.specs.Words.{raw, kind, IsWord}
 use Rattle.pc_words.specs.Statuses.{unpacked, IsStatus}
 use Rattle.pc_rule_law.specs.Board.{own_status, own_install, own_word, Place, at_clock, at_own, at_cell, address, Inside, place_number}
 use Rattle.pc_rule_law.specs.Past.{Has}
-use Rattle.pc_rule_law.specs.Stages.{IsIdle, IsOpen, decided_by}
+use Rattle.pc_rule_law.specs.Stages.{IsIdle, IsOpen, decided_by, IsCleared}
 use Rattle.pc_rule_law.specs.Views.{Note, version, entry, placed, loaded, install_word, early, removed, decided_below, held, clean, clock_at, word_loaded, attempt_word, OwnInstall, View, NoteInRange, AllNotes, with_notes}
 
 abbrev pub Mine : Type 0
@@ -167,6 +167,8 @@ IsPlaceIn slots place = (n : ℕ) × (f : Field) × (place ≡ place_number n f)
 pub record StatusLoaded (v : View) (p : ℕ) (s : Status) (w : View) : Type 0 where
   pub later : IsLater v w
   pub decided : IsNotedSince v w (decided_below p (decided_by s))
+  -- what is known to be decided is so by this status too
+  pub still_decided : (m : ℕ) → Has v.notes (decided_below p m) → m ≤ decided_by s
   pub undecided : IsOpen s.stage → (q k : ℕ) → Has v.notes (install_word q k 1 (raw (Exchange p s.number)))
       → Has w.notes (early q k)
   pub installs_below : (q k a : ℕ) → Has v.notes (install_word q k 1 (raw (Exchange p a))) → a ≤ s.number
@@ -175,6 +177,7 @@ pub record StatusLoaded (v : View) (p : ℕ) (s : Status) (w : View) : Type 0 wh
   pub settles : (IsIdle s.stage → ⊥) → (place x : ℕ) → Has v.notes (word_loaded p s.number place x)
       → Has w.notes (attempt_word p s.number place x)
   pub words_below : (a place x : ℕ) → Has v.notes (attempt_word p a place x) → a ≤ s.number
+  pub cleared : (a n : ℕ) (f : Field) → Has v.notes (held p a n f) → IsCleared s a → Has w.notes (clean p a n f)
   -- and it is in range: the number of changes and of visits, and the words of each change
   pub counts : (IsIdle s.stage → ⊥) → (count : ℕ) → Has v.notes (word_loaded p s.number 1 count) → count ≤ 25 + v.size.slots
   pub visits : (IsIdle s.stage → ⊥) → (count : ℕ) → Has v.notes (word_loaded p s.number 2 count) → count ≡ 0

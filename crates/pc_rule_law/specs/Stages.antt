@@ -1,5 +1,5 @@
 -- How far attempts have come, by their statuses.
-use Rattle.std.specs.Prelude.{◌≡◌, ℕ, ◌+◌, ◌≤◌}
+use Rattle.std.specs.Prelude.{◌≡◌, ◌⊎◌, ℕ, ◌+◌, ◌<◌, ◌≤◌}
 use Rattle.pc_words.specs.declared.status.Stage.{Stage}
 use Rattle.pc_words.specs.declared.status.Stage.TheVariants.{Idle, Undecided, Succeeded, Withdrawn, Changed, Locked}
 use Rattle.pc_words.specs.declared.status.Status.{Status}
@@ -57,3 +57,7 @@ decided_from k (Locked node seat) = k + 1
 
 abbrev pub decided_by : Status → ℕ
 decided_by s = decided_from s.number s.stage
+
+-- an attempt with this number is cleared, as a status says: the pass has gone on from it, or it is the last one and is idle
+abbrev pub IsCleared : Status → ℕ → Type 0
+IsCleared s a = (a < s.number) ⊎ ((a ≡ s.number) × IsIdle s.stage)

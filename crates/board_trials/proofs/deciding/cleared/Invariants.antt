@@ -2,7 +2,7 @@
 use Rattle.std.proofs.Common.{◌≡◌, ℕ, ◌<◌, ◌≤◌, ◌-◌, length}
 use Rattle.pc_rule_law.specs.Conditions.{IsFree}
 use Rattle.pc_rule.specs.Passes.{view, listed, IsSamePass}
-use Rattle.pc_kcas.specs.Exchanges.{IsPublished}
+use Rattle.pc_kcas.specs.Exchanges.{IsUncleared}
 use Rattle.board_trials.specs.Deciding.{HasSucceeded, IsCleanAt}
 use Rattle.board_trials.proofs.deciding.cleared.Given as goal
 
@@ -11,7 +11,7 @@ invariant-loop-i l = record {
   below : l.i ≤ l.count;
   count : l.count ≡ length (listed l.pass);
   same : IsSamePass l.initial.pass l.pass;
-  published : IsPublished l.pass;
+  published : IsUncleared l.pass;
   free : IsFree (view l.pass);
   succeeded : HasSucceeded l.pass;
   clean : (k : ℕ) → k < l.i → IsCleanAt l.pass k;

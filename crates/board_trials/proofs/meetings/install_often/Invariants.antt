@@ -2,14 +2,14 @@
 use Rattle.pc_rule_law.specs.Conditions.{IsFree}
 use Rattle.pc_rule.specs.Passes.{view, IsSamePass}
 use Rattle.pc_dcss.specs.Installs.{KnowsPlace}
-use Rattle.pc_kcas.specs.Exchanges.{IsPublished, own_exchange}
+use Rattle.pc_kcas.specs.Exchanges.{IsUncleared, own_exchange}
 use Rattle.board_trials.proofs.meetings.install_often.Given as goal
 
 abbrev pub invariant-loop : goal.invariant-loop
 invariant-loop l = record {
   same : IsSamePass l.initial.pass l.pass;
   free : IsFree (view l.pass);
-  published : IsPublished l.pass;
+  published : IsUncleared l.pass;
   one : KnowsPlace (view l.pass) (own_exchange l.pass) l.one;
   two : KnowsPlace (view l.pass) (own_exchange l.pass) l.two;
 }

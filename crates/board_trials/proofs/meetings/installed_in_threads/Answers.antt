@@ -9,7 +9,7 @@ use Rattle.board_trials.proofs.meetings.installed_in_threads.Goals as goal
 
 pub for_each_mut-requires-clause-accepts : goal.for_each_mut-requires-clause-accepts
 for_each_mut-requires-clause-accepts g c κs within i p lt is = let at = pass_at c.args.passes.now i p.now lt is in let o = c.requires.all.order i p.now at in
-    (o.0, (may_list c.args.passes.now c.requires.open i p.now at, o.2))
+    (o.0, (may_list c.args.passes.now c.requires.open i p.now at, (o.2, c.requires.start)))
 
 pub returns : goal.returns
 returns g c = let old = c.args.passes.now in let new = c.for_each_mut.new.s in let h = c.for_each_mut.ensures in let n = c.for_each_mut.auto.s in

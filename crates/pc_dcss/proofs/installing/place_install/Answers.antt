@@ -1,5 +1,5 @@
 -- What is known of the exchange bounds its numbers, and a descriptor's words are no notes.
-use Rattle.std.proofs.Common.{rules, ◌+◌, refl, sym, subst, arith}
+use Rattle.std.proofs.Common.{rules, ◌+◌, refl, sym, ap, subst, arith}
 use Rattle.pc_rule_law.specs.Past.{Has}
 use Rattle.pc_words.specs.declared.word.WordKind.TheVariants.{Exchange as ExchangeWord}
 use Rattle.pc_words.specs.Words.{raw}
@@ -7,17 +7,18 @@ use Rattle.pc_rule_law.specs.Board.{place_number}
 use Rattle.pc_rule_law.specs.Views.{View, held}
 use Rattle.pc_rule_law.specs.Plays.{AddsNotes, IsNotedSince}
 use Rattle.std.specs.Prelude.{IfErr}
+use Rattle.std.proofs.lemmas.Result.{IfErr-weaker}
 use Rattle.pc_dcss.specs.Installs.{described, IsReady, IsMet, IsDifferent, OnHeld, IfMet, IfDiffers}
 use Rattle.pc_rule.specs.declared.refs.Ref.{Ref}
 use Rattle.pc_rule.specs.declared.refs.RefKind.TheVariants.{Install as AnInstall}
 use Rattle.pc_rule.specs.Passes.{view, board_size}
 use Rattle.pc_rule.proofs.BoardSizes.{few_seats}
 use Rattle.pc_dcss.proofs.Staying.{notes_ranged}
-use Rattle.pc_dcss.proofs.Puts.{place_ranged, place_still}
+use Rattle.pc_dcss.proofs.Puts.{place_ranged, place_still, news_before}
 use Rattle.pc_dcss.proofs.installing.place_install.Goals as goal
-use Rattle.pc_rule.specs.Passes.{knows}
+use Rattle.pc_rule.specs.Passes.{whole, knows}
 use Rattle.pc_dcss.specs.Installs.{IsNews}
-use Rattle.pc_dcss.proofs.Learnt.{learns_none, learns_then}
+use Rattle.pc_dcss.proofs.Learnt.{learns_then}
 
 pub describe-requires-clause-op : goal.describe-requires-clause-op
 describe-requires-clause-op g c κs within = let b = c.args.board.now in let p = c.args.pass.now in let few = few_seats b in
@@ -62,4 +63,8 @@ pub returns-clause-learns : goal.returns-clause-learns
 returns-clause-learns g c = learns_then (knows c.args.pass.now) (knows c.describe.new.pass) (knows c.put_install.new.pass) c.describe.ensures.learns c.put_install.ensures.learns
 
 pub returns-clause-fresh : goal.returns-clause-fresh
-returns-clause-fresh g c = subst (λ (u : View). IfErr c.put_install.result (λ i. IfMet i (IsNews u.notes c.args.place))) c.describe.ensures.told c.put_install.ensures.fresh
+returns-clause-fresh g c = let p = c.args.pass.now in let q = c.describe.new.pass in
+    IfErr-weaker c.put_install.result (λ i. IfMet i (IsNews (whole q) c.args.place)) (λ i. IfMet i (IsNews (whole p) c.args.place))
+    (λ i. news_before (whole p) (whole q) (λ x h. subst (λ (u : View). Has u.notes x) (sym c.describe.ensures.told) h) c.describe.ensures.learns
+    (ap (λ (u : View). u.seat) c.describe.ensures.told) c.args.place i)
+    c.put_install.ensures.fresh

@@ -1,5 +1,5 @@
 -- The placing, by what stood in the word.
-use Rattle.std.proofs.Common.{◌<◌, ◌^◌, ap, subst}
+use Rattle.std.proofs.Common.{◌<◌, ◌^◌, ap, subst, arith}
 use Rattle.pc_rule_law.specs.Views.{View}
 use Rattle.pc_words.specs.Words.{kind}
 use Rattle.pc_rule_law.specs.Plays.{own_notes, found}
@@ -7,9 +7,10 @@ use Rattle.pc_rule.specs.Passes.{view, board_size}
 use Rattle.pc_dcss.proofs.Staying.{notes_ranged}
 use Rattle.pc_dcss.proofs.Puts.{install_again, keeps_with_more, place_ranged, entry_known, placed_by_hit, held_now, met_now, differs_now, not_old}
 use Rattle.pc_dcss.proofs.installing.put_install.Goals as goal
-use Rattle.pc_rule.specs.Passes.{whole}
-use Rattle.pc_dcss.proofs.Puts.{new_now}
+use Rattle.pc_rule.specs.Passes.{whole, knows}
+use Rattle.pc_dcss.proofs.Puts.{new_now, come_now, outdated_now}
 use Rattle.pc_dcss.proofs.Learnt.{learns_swapped}
+use Rattle.pc_rule.proofs.BoardSizes.{few_seats}
 
 pub plain-old-requires : goal.plain-old-requires
 plain-old-requires g c = let b = c.args.board.now in let p = c.args.pass.now in
@@ -80,4 +81,14 @@ pub returns-clause-learns : goal.returns-clause-learns
 returns-clause-learns g c = let at = c.args.place in learns_swapped (whole c.args.pass.now) at.node at.field c.plain-old.result c.install_ref-install.result c.step_6-found.result (whole c.step_6-found.new.pass) c.step_6-found.ensures.learnt
 
 pub returns-clause-fresh : goal.returns-clause-fresh
-returns-clause-fresh g c = new_now (view c.args.pass.now) c.args.place (kind c.step_6-found.result) c.refusal.result c.refusal.ensures.met c.step_6-found.ensures.told.present c.step_6-found.ensures.told.unclean
+returns-clause-fresh g c = new_now (whole c.args.pass.now) c.args.place c.step_6-found.result c.refusal.result c.refusal.ensures.met c.step_6-found.ensures.told.present c.step_6-found.ensures.told.unclean
+    c.step_6-found.ensures.present
+
+pub returns-clause-came : goal.returns-clause-came
+returns-clause-came g c = come_now (knows c.step_6-found.new.pass) (kind c.step_6-found.result) c.refusal.result c.refusal.ensures.met (c.step_6-found.ensures.learnt.miss c.if-found-old.false).came
+
+pub returns-clause-outdated : goal.returns-clause-outdated
+returns-clause-outdated g c = let z = board_size c.args.board.now in let p = c.args.pass.now in
+    let small = (place_ranged z (view p) c.requires.pass.1 (notes_ranged c.args.board.now p c.requires.pass) c.args.op c.args.place c.requires.ready.listed).0 in
+    outdated_now (whole p) c.args.op c.args.place c.step_6-found.result c.plain-old.result (whole c.step_6-found.new.pass) c.refusal.result
+    (let lt = small.0 in let few = few_seats c.args.board.now in omega arith) c.requires.ready.op_word c.step_6-found.ensures.outdated c.if-found-old.false c.refusal.ensures.differs

@@ -5,7 +5,7 @@ use Rattle.pc_rule.specs.Passes.{view}
 use Rattle.pc_rule.proofs.BoardSizes.{few_seats}
 use Rattle.pc_dcss.proofs.Takes.{held_by_hit, held_by_miss, decided_by_miss}
 use Rattle.pc_dcss.proofs.taking.put_reference.Goals as goal
-use Rattle.pc_rule.specs.Passes.{whole, knows}
+use Rattle.pc_rule.specs.Passes.{whole}
 use Rattle.pc_dcss.proofs.Learnt.{learns_swapped}
 
 pub returns-then-found-own-clause-held : goal.returns-then-found-own-clause-held

@@ -2,7 +2,7 @@
 use Rattle.std.proofs.Common.{◌≡◌, ℕ, ◌<◌, ◌≤◌, ◌-◌, length}
 use Rattle.pc_rule.specs.Passes.{whole, listed, IsSamePass}
 use Rattle.pc_kcas.specs.Clearing.{IsCleanAt}
-use Rattle.pc_kcas.specs.Exchanges.{IsPublished}
+use Rattle.pc_kcas.specs.Exchanges.{IsUncleared}
 use Rattle.pc_kcas.specs.Settling.{HasLearnt}
 use Rattle.pc_kcas.proofs.clearing.clear_listed.Given as goal
 
@@ -12,7 +12,7 @@ invariant-loop-i g l = record {
   count : l.count ≡ length (listed l.pass);
   same : IsSamePass l.initial.pass l.pass;
   learnt : HasLearnt (whole l.initial.pass) (whole l.pass);
-  published : IsPublished l.pass;
+  published : IsUncleared l.pass;
   clean : (k : ℕ) → k < l.i → IsCleanAt l.pass k;
 }
 

@@ -11,7 +11,7 @@ decide_held-requires-clause-attempt g c = λ _ _. let b = c.args.board.now in le
     met_attempt (board_size b) (view p) c.args.op (notes_ranged b p c.requires.pass) c.requires.come.0
 
 pub decide_held-requires-clause-held : goal.decide_held-requires-clause-held
-decide_held-requires-clause-held g c = λ _ _. holds_each (whole c.args.pass.now) c.args.op c.args.count c.requires.counted c.requires.some c.requires.holds
+decide_held-requires-clause-held g c = λ _ _. holds_each (whole c.args.pass.now) c.args.op c.args.count c.requires.counted c.requires.come c.requires.holds
 
 pub decide_held-requires-clause-visits : goal.decide_held-requires-clause-visits
 decide_held-requires-clause-visits g c = λ _ _. inl c.requires.none.1

@@ -5,12 +5,14 @@ use Rattle.pc_words.specs.Statuses.{unpacked}
 use Rattle.pc_rule_law.specs.Plays.{StatusLoaded}
 use Rattle.pc_exchange_law.specs.Knowing.{StatusSeen}
 use Rattle.pc_exchange_law.specs.Ties.{code}
-use Rattle.pc_exchange_law.specs.WholePlays.{verdict_by}
+use Rattle.pc_exchange_law.specs.WholePlays.{OwnVerdict, verdict_by}
 use Rattle.pc_protocol.specs.Notes.{verdict}
 use Rattle.pc_rule.specs.Deciding.{MayDecide}
 use Rattle.pc_rule.specs.Passes.{whole, board_size}
 use Rattle.pc_kcas.proofs.Learning.{learnt_decision, decision_told}
 use Rattle.pc_kcas.proofs.Standing.{stands_seen, not_undecided, settled_by, settles_idle, settles_open, may_decide}
+use Rattle.pc_kcas.proofs.Courses.{course_seen}
+use Rattle.pc_kcas.proofs.Failing.{failure_seen, failure_put}
 use Rattle.pc_kcas.proofs.deciding.decide.Goals as goal
 
 pub step_14-found-requires-clause-may : goal.step_14-found-requires-clause-may
@@ -22,7 +24,7 @@ step_14-found-requires-clause-may g c = λ _ _. let o = c.args.op in let at : o.
 pub returns-then-found-old-clause-learnt : goal.returns-then-found-old-clause-learnt
 returns-then-found-old-clause-learnt g c = let x = whole c.args.pass.now in let y = whole c.step_14-found.new.pass in let o = c.args.op in
     let n = verdict (code ((o.seat + 1) - 1) (unpacked c.pack-old.result).number) (verdict_by (unpacked c.pack-new.result).stage) in
-    learnt_decision x y ((o.seat + 1) - 1) (unpacked c.pack-old.result).number _ n (c.step_14-found.ensures.told.hit c.if-found-old.true) refl refl refl refl refl
+    learnt_decision x y ((o.seat + 1) - 1) (unpacked c.pack-old.result).number _ n (c.step_14-found.ensures.told.hit c.if-found-old.true) refl refl refl
 
 pub returns-then-found-old-clause-settled : goal.returns-then-found-old-clause-settled
 returns-then-found-old-clause-settled g c = let x = whole c.args.pass.now in let y = whole c.step_14-found.new.pass in let o = c.args.op in
@@ -42,3 +44,29 @@ returns-clause-settled g c = let x = whole c.args.pass.now in let y = whole c.st
           (subst (λ i. StatusSeen x.knows i (unpacked r) y.knows) at m.2);
       over = not_undecided r o.number m.0 (λ e. c.if-found-old.false (e ∙ sym c.pack-old.ensures.packed));
     }
+
+pub returns-then-found-old-clause-failure : goal.returns-then-found-old-clause-failure
+returns-then-found-old-clause-failure g c = let x = whole c.args.pass.now in let y = whole c.step_14-found.new.pass in let o = c.args.op in
+    let at : (o.seat + 1) - 1 ≡ o.seat = omega arith in
+    let n = verdict (code ((o.seat + 1) - 1) (unpacked c.pack-old.result).number) (verdict_by (unpacked c.pack-new.result).stage) in
+    let hit = c.step_14-found.ensures.told.hit c.if-found-old.true in
+    let l = learnt_decision x y ((o.seat + 1) - 1) (unpacked c.pack-old.result).number _ n hit refl refl refl in
+    let told = decision_told x y ((o.seat + 1) - 1) (unpacked c.pack-old.result).number _ n hit refl in
+    failure_put x y o.seat o.number c.args.stage c.requires.may l.told
+    (rw (sym at, sym (ap (λ (s : Status). s.number) c.pack-old.ensures.back), sym (ap (λ (s : Status). s.stage) c.pack-new.ensures.back)) told)
+
+pub returns-clause-failure : goal.returns-clause-failure
+returns-clause-failure g c = let x = whole c.args.pass.now in let y = whole c.step_14-found.new.pass in let o = c.args.op in let r = c.step_14-found.result in
+    let at : (o.seat + 1) - 1 ≡ o.seat = omega arith in
+    let m = c.step_14-found.ensures.told.miss c.if-found-old.false in
+    rw c.unpack.ensures.status (failure_seen x y o.seat (unpacked r)
+    (subst (λ i. StatusSeen x.knows i (unpacked r) y.knows) at m.2)
+    (subst (λ i. OwnVerdict x i (unpacked r) y) at m.4))
+
+pub returns-clause-course : goal.returns-clause-course
+returns-clause-course g c = let x = whole c.args.pass.now in let y = whole c.step_14-found.new.pass in let o = c.args.op in let r = c.step_14-found.result in
+    let at : (o.seat + 1) - 1 ≡ o.seat = omega arith in
+    let m = c.step_14-found.ensures.told.miss c.if-found-old.false in
+    rw c.unpack.ensures.status (course_seen x y o (unpacked r)
+    (subst (λ i. StatusLoaded x.view i (unpacked r) y.view) at m.1)
+    (subst (λ i. StatusSeen x.knows i (unpacked r) y.knows) at m.2))

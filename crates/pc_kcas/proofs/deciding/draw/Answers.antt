@@ -6,6 +6,8 @@ use Rattle.pc_protocol.specs.Notes.{clock_was, drew}
 use Rattle.pc_rule.specs.Passes.{whole}
 use Rattle.pc_kcas.specs.Settling.{HasLearnt}
 use Rattle.pc_kcas.proofs.Learning.{learnt_then, learnt_note, clock_learnt, holds_still, of_still, known_by_holding, draws_for}
+use Rattle.pc_kcas.proofs.Courses.{course_before}
+use Rattle.pc_kcas.proofs.Failing.{failure_before}
 use Rattle.pc_kcas.proofs.deciding.draw.Goals as goal
 
 pub returns-then-clock-ge-LAST_STAMP-clause-learnt : goal.returns-then-clock-ge-LAST_STAMP-clause-learnt
@@ -35,10 +37,26 @@ pub returns-then-stamp-ge-LAST_STAMP-clause-learnt : goal.returns-then-stamp-ge-
 returns-then-stamp-ge-LAST_STAMP-clause-learnt g c = let e = c.step_9-clock.ensures in let s = c.load_status-status.ensures in
     let x = whole c.args.pass.now in let y = whole c.step_9-clock.new.pass in let z = whole c.load_status-status.new.pass in let r = c.step_13-stamp.result in
     learnt_then x z (whole c.step_13-stamp.new.pass) (learnt_then x y z (clock_learnt x y c.step_9-clock.result e.told e.learnt) s.learnt)
-    (learnt_note z (whole c.step_13-stamp.new.pass) (after_refusal z.knows r) (clock_was r) (c.step_13-stamp.ensures.refused (search rules)) refl refl refl refl refl)
+    (learnt_note z (whole c.step_13-stamp.new.pass) (after_refusal z.knows r) (clock_was r) (c.step_13-stamp.ensures.refused (search rules)) refl refl refl)
 
 pub returns-clause-learnt : goal.returns-clause-learnt
 returns-clause-learnt g c = let e = c.step_9-clock.ensures in let s = c.load_status-status.ensures in let o = c.args.op in
     let x = whole c.args.pass.now in let y = whole c.step_9-clock.new.pass in let z = whole c.load_status-status.new.pass in let r = c.step_13-stamp.result in
     learnt_then x z (whole c.step_13-stamp.new.pass) (learnt_then x y z (clock_learnt x y c.step_9-clock.result e.told e.learnt) s.learnt)
-    (learnt_note z (whole c.step_13-stamp.new.pass) (after_draw z.knows (code o.seat o.number) r) (drew (code o.seat o.number) r) (c.step_13-stamp.ensures.drawn (search rules)) refl refl refl refl refl)
+    (learnt_note z (whole c.step_13-stamp.new.pass) (after_draw z.knows (code o.seat o.number) r) (drew (code o.seat o.number) r) (c.step_13-stamp.ensures.drawn (search rules)) refl refl refl)
+
+pub returns-then-status-op-clause-failure : goal.returns-then-status-op-clause-failure
+returns-then-status-op-clause-failure g c = let e = c.step_9-clock.ensures in let x = whole c.args.pass.now in let y = whole c.step_9-clock.new.pass in
+    failure_before x y (whole c.load_status-status.new.pass) c.args.op.seat c.load_status-status.result (clock_learnt x y c.step_9-clock.result e.told e.learnt) c.load_status-status.ensures.failure
+
+pub returns-then-not-is_open-clause-failure : goal.returns-then-not-is_open-clause-failure
+returns-then-not-is_open-clause-failure g c = let e = c.step_9-clock.ensures in let x = whole c.args.pass.now in let y = whole c.step_9-clock.new.pass in
+    failure_before x y (whole c.load_status-status.new.pass) c.args.op.seat c.load_status-status.result (clock_learnt x y c.step_9-clock.result e.told e.learnt) c.load_status-status.ensures.failure
+
+pub returns-then-status-op-clause-course : goal.returns-then-status-op-clause-course
+returns-then-status-op-clause-course g c = let e = c.step_9-clock.ensures in let x = whole c.args.pass.now in let y = whole c.step_9-clock.new.pass in
+    course_before x y (whole c.load_status-status.new.pass) c.args.op c.load_status-status.result (clock_learnt x y c.step_9-clock.result e.told e.learnt).view.more c.load_status-status.ensures.course
+
+pub returns-then-not-is_open-clause-course : goal.returns-then-not-is_open-clause-course
+returns-then-not-is_open-clause-course g c = let e = c.step_9-clock.ensures in let x = whole c.args.pass.now in let y = whole c.step_9-clock.new.pass in
+    course_before x y (whole c.load_status-status.new.pass) c.args.op c.load_status-status.result (clock_learnt x y c.step_9-clock.result e.told e.learnt).view.more c.load_status-status.ensures.course

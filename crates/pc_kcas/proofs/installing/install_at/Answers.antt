@@ -5,12 +5,16 @@ use Rattle.pc_rule.specs.Passes.{view, listed}
 use Rattle.pc_rule.proofs.Starting.{element}
 use Rattle.pc_kcas.proofs.Attempts.{knows_place}
 use Rattle.pc_kcas.proofs.Holding.{held_at, stopped_at, at_most_one}
+use Rattle.pc_kcas.proofs.Owning.{published_known}
 use Rattle.pc_kcas.proofs.installing.install_at.Goals as goal
 
 pub install-answer-requires-clause-place : goal.install-answer-requires-clause-place
 install-answer-requires-clause-place g c = λ _ _. let p = c.args.pass.now in let of = c.requires.pass in
-    knows_place (view p) (listed p) c.requires.published p.listing (subst (λ z. (view p).seat < z.seats) (sym of.1) of.2) (record { kind = Exchange; seat = c.seat_of.result; number = c.attempts.result }) c.args.i _
+    knows_place (view p) (listed p) c.requires.published.0 p.listing (subst (λ z. (view p).seat < z.seats) (sym of.1) of.2) (record { kind = Exchange; seat = c.seat_of.result; number = c.attempts.result }) c.args.i _
     c.seat_of.ensures.seat c.attempts.ensures (rw c.listed.ensures (element (listed p) c.args.i _ c.requires.index))
+
+pub returns-clause-published : goal.returns-clause-published
+returns-clause-published g c = let e = c.install-answer.ensures in published_known c.args.pass.now c.install-answer.new.pass e.pass e.attempt e.learns c.requires.published
 
 pub returns-clause-held : goal.returns-clause-held
 returns-clause-held g c = λ yes. held_at c.args.pass.now c.install-answer.new.pass c.args.i c.seat_of.result c.attempts.result c.listed.result.now _ c.install-answer.result

@@ -2,12 +2,17 @@
 use Rattle.std.proofs.Common.{rules, ◌≡◌, ◌∙◌, subst, sym, arith}
 use mathlib.Core.Logic.{dite}
 use native.Mathlib.Decide.{ℕ_discrete}
+use Rattle.pc_rule.specs.Passes.{knows}
+use Rattle.pc_dcss.proofs.Learnt.{learns_then}
 use Rattle.pc_kcas.specs.Exchanges.{IsHeldAt}
-use Rattle.pc_kcas.proofs.Holding.{pass_published, held_still, held_since, stopped_since, adds_more}
+use Rattle.pc_kcas.proofs.Holding.{held_still, held_since, stopped_since, adds_more}
 use Rattle.pc_kcas.proofs.installing.install_first.Goals as goal
 
 pub returns-then-not-install_at-clause-adds : goal.returns-then-not-install_at-clause-adds
 returns-then-not-install_at-clause-adds g c = adds_more c.args.pass.now c.loop-held.pass c.install_at.new.pass c.loop-held.invariant.adds c.install_at.ensures.adds
+
+pub returns-then-not-install_at-clause-learns : goal.returns-then-not-install_at-clause-learns
+returns-then-not-install_at-clause-learns g c = learns_then (knows c.args.pass.now) (knows c.loop-held.pass) (knows c.install_at.new.pass) c.loop-held.invariant.learns c.install_at.ensures.learns
 
 pub returns-then-not-install_at-clause-held : goal.returns-then-not-install_at-clause-held
 returns-then-not-install_at-clause-held g c = λ i lt. let e = c.install_at.ensures in held_still c.args.pass.now c.loop-held.pass c.install_at.new.pass i e.pass e.attempt e.adds (c.loop-held.invariant.held i lt)
@@ -20,7 +25,8 @@ loop-held-preserved g c = let inv = c.loop-held.invariant in let e = c.install_a
   few = search rules;
   same = search rules;
   free = e.free;
-  published = pass_published p q e.pass e.attempt inv.published;
+  published = e.published;
+  learns = learns_then (knows o) (knows p) (knows q) inv.learns e.learns;
   adds = adds_more o p q inv.adds e.adds;
   attempt = (e.attempt.0 ∙ inv.attempt.0, e.attempt.1 ∙ inv.attempt.1);
   most = (let a = inv.most in let b = e.most in omega arith);

@@ -7,7 +7,7 @@ use Rattle.pc_rule.proofs.BoardSizes.{few_slots}
 use Rattle.pc_rule.proofs.Calls.{pass_stays}
 use Rattle.pc_dcss.proofs.Learnt.{learns_then}
 use Rattle.pc_dcss.proofs.Staying.{later_then}
-use Rattle.pc_kcas.proofs.ReadWords.{come_still, now_read, loaded_still, count_few, none_visited, over_decided, number_passed}
+use Rattle.pc_kcas.proofs.ReadWords.{come_still, now_read, loaded_still, count_few, none_visited, over_decided, over_cleaned, number_passed}
 use Rattle.pc_kcas.proofs.reading.read_count.Goals as goal
 
 pub load_word-visits-requires-clause-come : goal.load_word-visits-requires-clause-come
@@ -31,6 +31,10 @@ returns-clause-learns g c = learns_then (knows c.args.pass.now) (knows c.load_wo
 pub returns-then-not-stands-clause-decided : goal.returns-then-not-stands-clause-decided
 returns-then-not-stands-clause-decided g c = let later : IsLater (view c.args.pass.now) (view c.load_word-visits.new.pass) = (later_then (view c.args.pass.now) (view c.load_word-count.new.pass) (view c.load_word-visits.new.pass) c.load_word-count.ensures.later c.load_word-visits.ensures.later) in
     over_decided (whole c.load_word-visits.new.pass) (whole c.load_status-status.new.pass) c.args.op c.load_status-status.result c.load_status-status.ensures.loaded (view c.args.pass.now) later.adds c.load_status-status.ensures.ahead (c.stands.ensures.no c.if-not-stands.true)
+
+pub returns-then-not-stands-clause-cleaned : goal.returns-then-not-stands-clause-cleaned
+returns-then-not-stands-clause-cleaned g c = let later : IsLater (view c.args.pass.now) (view c.load_word-visits.new.pass) = (later_then (view c.args.pass.now) (view c.load_word-count.new.pass) (view c.load_word-visits.new.pass) c.load_word-count.ensures.later c.load_word-visits.ensures.later) in
+    over_cleaned (whole c.load_word-visits.new.pass) (whole c.load_status-status.new.pass) c.args.op c.load_status-status.result c.load_status-status.ensures.loaded (view c.args.pass.now) later c.load_status-status.ensures.ahead (c.stands.ensures.no c.if-not-stands.true)
 
 pub returns-then-not-stands-clause-over : goal.returns-then-not-stands-clause-over
 returns-then-not-stands-clause-over g c = c.stands.ensures.no c.if-not-stands.true

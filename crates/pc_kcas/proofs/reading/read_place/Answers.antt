@@ -9,7 +9,7 @@ use Rattle.pc_rule.proofs.Calls.{pass_stays}
 use Rattle.pc_dcss.proofs.Learnt.{learns_then}
 use Rattle.pc_dcss.proofs.Staying.{later_then, notes_ranged}
 use Rattle.pc_kcas.specs.Readings.{HasRead}
-use Rattle.pc_kcas.proofs.ReadWords.{met_attempt, come_still, now_read, loaded_still, words_fit, over_decided, number_passed, entry_read, place_read, place_low}
+use Rattle.pc_kcas.proofs.ReadWords.{met_attempt, come_still, now_read, loaded_still, words_fit, over_decided, over_cleaned, number_passed, entry_read, place_read, place_low}
 use Rattle.pc_kcas.proofs.reading.read_place.Goals as goal
 
 pub load_word-old-requires-clause-come : goal.load_word-old-requires-clause-come
@@ -49,6 +49,12 @@ returns-then-not-stands-clause-decided g c =
     let p = c.args.pass.now in let a = c.load_word-place.new.pass in let b = c.load_word-old.new.pass in let d = c.load_word-new.new.pass in let w = c.load_status-status.new.pass in
     let l = c.load_status-status.ensures in let adds : IsLater (view p) (view d) = (later_then (view p) (view a) (view d) c.load_word-place.ensures.later (later_then (view a) (view b) (view d) c.load_word-old.ensures.later c.load_word-new.ensures.later)) in
     over_decided (whole d) (whole w) c.args.op c.load_status-status.result l.loaded (view p) adds.adds l.ahead (c.stands.ensures.no c.if-not-stands.true)
+
+pub returns-then-not-stands-clause-cleaned : goal.returns-then-not-stands-clause-cleaned
+returns-then-not-stands-clause-cleaned g c =
+    let p = c.args.pass.now in let a = c.load_word-place.new.pass in let b = c.load_word-old.new.pass in let d = c.load_word-new.new.pass in let w = c.load_status-status.new.pass in
+    let l = c.load_status-status.ensures in let adds : IsLater (view p) (view d) = (later_then (view p) (view a) (view d) c.load_word-place.ensures.later (later_then (view a) (view b) (view d) c.load_word-old.ensures.later c.load_word-new.ensures.later)) in
+    over_cleaned (whole d) (whole w) c.args.op c.load_status-status.result l.loaded (view p) adds l.ahead (c.stands.ensures.no c.if-not-stands.true)
 
 pub returns-then-not-stands-clause-over : goal.returns-then-not-stands-clause-over
 returns-then-not-stands-clause-over g c = c.stands.ensures.no c.if-not-stands.true

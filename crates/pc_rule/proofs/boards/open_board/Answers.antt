@@ -1,6 +1,6 @@
 use Rattle.std.proofs.Common.{false, length, refl, ap, arith}
 use Rattle.pc_rule_law.specs.declared.opening.Opening.{Opening}
-use Rattle.pc_rule.proofs.Opened.{all_opened, none_noted, none_known, all_shared, none_installed, none_tried}
+use Rattle.pc_rule.proofs.Opened.{all_opened, none_noted, none_known, all_shared, none_installed, none_tried, none_visited}
 use Rattle.pc_rule.proofs.Sharing.{none_formed, small_cells}
 use Rattle.pc_rule.proofs.boards.open_board.Goals as goal
 
@@ -35,3 +35,6 @@ returns-clause-tried g c = let e = c.in-Ok.ensures in let o : Opening = (record 
 
 pub returns-clause-installed : goal.returns-clause-installed
 returns-clause-installed g c = let e = c.in-Ok.ensures in let o : Opening = (record { seats = length c.args.shares.now; slots = c.all_slots.result; starts = c.args.starts; given = c.new.result; posted = false }) in none_installed c.in-Ok.made.0 o c.in-Ok.made.1.items e.2 e.0
+
+pub returns-clause-visited : goal.returns-clause-visited
+returns-clause-visited g c = let e = c.in-Ok.ensures in let o : Opening = (record { seats = length c.args.shares.now; slots = c.all_slots.result; starts = c.args.starts; given = c.new.result; posted = false }) in none_visited c.in-Ok.made.0 o c.in-Ok.made.1.items e.2

@@ -1,5 +1,5 @@
 -- The step's lemma, at the address of the word.
-use Rattle.std.proofs.Common.{ℕ, refl, sym, ap, ◌∙◌, subst}
+use Rattle.std.proofs.Common.{ℕ, refl, sym, ap, ◌∙◌, subst, rules}
 use Rattle.pc_rule_law.specs.Board.{Size, Place, at_clock, Inside}
 use Rattle.pc_rule_law.specs.Views.{View, OwnAttempt}
 use Rattle.pc_rule_law.specs.Tables.{size_of}
@@ -13,6 +13,7 @@ use Rattle.pc_exchange_law.specs.Ties.{code}
 use Rattle.pc_rule.proofs.Attempts.{KeepsOwn, drawn_or_not}
 use Rattle.pc_rule.proofs.Listing.{still_listed}
 use Rattle.pc_rule.proofs.Telling.{told_at}
+use Rattle.pc_rule.proofs.Walking.{path_still}
 use Rattle.pc_rule.proofs.decisions.step_13.Goals as goal
 
 pub fetch_add-requires : goal.fetch_add-requires
@@ -39,6 +40,7 @@ invariant_of-pass g c = let x : Whole = c.args.pass.now.seat.me.0 in let v : Vie
       roomy = c.args.pass.now.roomy;
       ample = c.args.pass.now.ample;
       listing = still_listed v y.view c.args.pass.now.listed.items t.1 c.args.pass.now.listing;
+      walking = path_still x y _ _ _ (keeps.path) t.1.4 c.args.pass.now.walking;
     }
 
 pub returns-clause-drawn : goal.returns-clause-drawn
@@ -48,3 +50,10 @@ returns-clause-drawn g c = let x : Whole = c.args.pass.now.seat.me.0 in let v : 
 pub returns-clause-refused : goal.returns-clause-refused
 returns-clause-refused g c = let x : Whole = c.args.pass.now.seat.me.0 in let v : View = x.view in let z : Size = size_of c.args.board.now.table.shared.key in let p : Place = at_clock in let inside : Inside z p = tt in let y : Whole = c.fetch_add.new.seat.me.0 in
     let told = told_at v z 0 (Draws x c.fetch_add.result c.fetch_add.new.seat.me.0) p c.requires.pass.1 c.fetch_add.ensures.2.2 inside refl in told.refused
+
+pub returns-clause-pass : goal.returns-clause-pass
+returns-clause-pass g c = let x : Whole = c.args.pass.now.seat.me.0 in let v : View = x.view in let z : Size = size_of c.args.board.now.table.shared.key in let p : Place = at_clock in let inside : Inside z p = tt in
+    let t = c.fetch_add.ensures.2 in let y : Whole = c.fetch_add.new.seat.me.0 in
+    let told = told_at v z 0 (Draws x c.fetch_add.result c.fetch_add.new.seat.me.0) p c.requires.pass.1 c.fetch_add.ensures.2.2 inside refl in
+    let keeps : KeepsOwn x y = drawn_or_not x c.fetch_add.result y told in
+    (search rules, refl, (keeps.path, refl))

@@ -1,5 +1,5 @@
 -- The step's lemma, at the address of the word.
-use Rattle.std.proofs.Common.{◌-◌, refl, ap, ◌∙◌, ⊎_elim, arith}
+use Rattle.std.proofs.Common.{◌-◌, refl, ap, ◌∙◌, ⊎_elim, arith, rules}
 use Rattle.pc_words.specs.Statuses.{unpacked}
 use Rattle.pc_rule_law.specs.Board.{Size, Place, at_own, own_status, Inside}
 use Rattle.pc_rule_law.specs.Views.{View, OwnAttempt}
@@ -11,6 +11,7 @@ use Rattle.pc_exchange_law.proofs.WholeDecisions.{whole_succeed, whole_fail}
 use Rattle.pc_rule.proofs.Attempts.{KeepsOwn, decided_keeps, tried_keeps}
 use Rattle.pc_rule.proofs.Listing.{still_listed}
 use Rattle.pc_rule.proofs.Telling.{told_at}
+use Rattle.pc_rule.proofs.Walking.{path_still}
 use Rattle.pc_rule.proofs.decisions.step_14.Goals as goal
 
 pub compare_exchange-requires : goal.compare_exchange-requires
@@ -40,8 +41,16 @@ invariant_of-pass g c = let x : Whole = c.args.pass.now.seat.me.0 in let v : Vie
       roomy = c.args.pass.now.roomy;
       ample = c.args.pass.now.ample;
       listing = still_listed v y.view c.args.pass.now.listed.items t.1 c.args.pass.now.listing;
+      walking = path_still x y _ _ _ (keeps.path) t.1.4 c.args.pass.now.walking;
     }
 
 pub returns-clause-told : goal.returns-clause-told
 returns-clause-told g c = let x : Whole = c.args.pass.now.seat.me.0 in let v : View = x.view in let z : Size = size_of c.args.board.now.table.shared.key in let p : Place = at_own (c.args.of - 1) own_status in let inside : Inside z p = ((let of = c.requires.of in omega arith), tt) in let y : Whole = c.compare_exchange.new.seat.me.0 in
     let told = told_at v z c.own_word-word.result (HasDecided x c.args.old c.args.new c.compare_exchange.result c.compare_exchange.new.seat.me.0) p c.requires.pass.1 c.compare_exchange.ensures.2.2 inside c.own_word-word.ensures in told
+
+pub returns-clause-pass : goal.returns-clause-pass
+returns-clause-pass g c = let x : Whole = c.args.pass.now.seat.me.0 in let v : View = x.view in let z : Size = size_of c.args.board.now.table.shared.key in let p : Place = at_own (c.args.of - 1) own_status in let inside : Inside z p = ((let of = c.requires.of in omega arith), tt) in
+    let t = c.compare_exchange.ensures.2 in let y : Whole = c.compare_exchange.new.seat.me.0 in
+    let told = told_at v z c.own_word-word.result (HasDecided x c.args.old c.args.new c.compare_exchange.result c.compare_exchange.new.seat.me.0) p c.requires.pass.1 c.compare_exchange.ensures.2.2 inside c.own_word-word.ensures in
+    let keeps : KeepsOwn x y = tried_keeps x (c.args.of - 1) c.args.old c.compare_exchange.result _ y told (λ e. decided_keeps x y (c.args.of - 1) (unpacked c.args.old).number _ e refl refl refl) in
+    (search rules, refl, (keeps.path, refl))

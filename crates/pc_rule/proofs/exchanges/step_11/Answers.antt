@@ -1,5 +1,5 @@
 -- The step's lemma, at the address of the word.
-use Rattle.std.proofs.Common.{◌≡◌, ◌+◌, refl, sym, ap, ◌∙◌, subst}
+use Rattle.std.proofs.Common.{◌≡◌, ◌+◌, refl, sym, ap, ◌∙◌, subst, rules}
 use Rattle.pc_rule_law.specs.Board.{Size, Place, at_own, own_status, Inside}
 use Rattle.pc_rule_law.specs.Views.{View}
 use Rattle.pc_rule_law.specs.Tables.{size_of}
@@ -10,6 +10,7 @@ use Rattle.pc_exchange_law.proofs.WholeStores.{whole_publish}
 use Rattle.pc_rule.specs.Attempts.{AgreeOnAttempt}
 use Rattle.pc_rule.proofs.Listing.{still_listed}
 use Rattle.pc_rule.proofs.Telling.{told_at}
+use Rattle.pc_rule.proofs.Walking.{path_still}
 use Rattle.pc_rule.proofs.exchanges.step_11.Goals as goal
 
 pub store-requires : goal.store-requires
@@ -35,6 +36,7 @@ invariant_of-pass g c = let x : Whole = c.args.pass.now.seat.me.0 in let v : Vie
       roomy = c.args.pass.now.roomy;
       ample = c.args.pass.now.ample;
       listing = still_listed v y.view c.args.pass.now.listed.items t.1 c.args.pass.now.listing;
+      walking = path_still x y _ _ _ (ap (λ (u : Whole). u.path) told.4) t.1.4 c.args.pass.now.walking;
     }
 
 pub returns-clause-told : goal.returns-clause-told
@@ -48,3 +50,9 @@ returns-clause-learnt g c = let x : Whole = c.args.pass.now.seat.me.0 in let v :
 pub returns-clause-aim : goal.returns-clause-aim
 returns-clause-aim g c = let x : Whole = c.args.pass.now.seat.me.0 in let v : View = x.view in let z : Size = size_of c.args.board.now.table.shared.key in let p : Place = at_own v.seat own_status in let n : c.args.pass.now.index ≡ v.seat = sym c.args.pass.now.numbered in let inside : Inside z p = (c.requires.pass.2, tt) in let y : Whole = c.store.new.seat.me.0 in
     let told = told_at v z c.own_word-word.result (HasPublished x c.store.new.seat.me.0) p c.requires.pass.1 c.store.ensures.2.2 inside (rw (c.own_word-word.ensures, n) refl) refl in ap (λ (u : Whole). u.aim) told.4
+
+pub returns-clause-pass : goal.returns-clause-pass
+returns-clause-pass g c = let x : Whole = c.args.pass.now.seat.me.0 in let v : View = x.view in let z : Size = size_of c.args.board.now.table.shared.key in let p : Place = at_own v.seat own_status in let n : c.args.pass.now.index ≡ v.seat = sym c.args.pass.now.numbered in let inside : Inside z p = (c.requires.pass.2, tt) in
+    let t = c.store.ensures.2 in let y : Whole = c.store.new.seat.me.0 in
+    let told = told_at v z c.own_word-word.result (HasPublished x c.store.new.seat.me.0) p c.requires.pass.1 c.store.ensures.2.2 inside (rw (c.own_word-word.ensures, n) refl) refl in let is = told.4 in
+    (search rules, refl, (ap (λ (u : Whole). u.path) told.4, refl))

@@ -1,5 +1,5 @@
 -- The step's lemma, at the address of the word.
-use Rattle.std.proofs.Common.{refl, ap, ◌∙◌}
+use Rattle.std.proofs.Common.{refl, ap, ◌∙◌, rules}
 use Rattle.pc_rule_law.specs.Board.{Size, Place, at_clock, Inside}
 use Rattle.pc_rule_law.specs.Views.{View}
 use Rattle.pc_rule_law.specs.Tables.{size_of}
@@ -11,6 +11,7 @@ use Rattle.pc_rule.proofs.Attempts.{agree_still}
 use Rattle.pc_exchange_law.specs.Passes.{PassKnows}
 use Rattle.pc_rule.proofs.Listing.{still_listed}
 use Rattle.pc_rule.proofs.Telling.{told_at}
+use Rattle.pc_rule.proofs.Walking.{path_still}
 use Rattle.pc_rule.proofs.exchanges.step_9.Goals as goal
 
 pub load-requires : goal.load-requires
@@ -36,6 +37,7 @@ invariant_of-pass g c = let x : Whole = c.args.pass.now.seat.me.0 in let v : Vie
       roomy = c.args.pass.now.roomy;
       ample = c.args.pass.now.ample;
       listing = still_listed v y.view c.args.pass.now.listed.items t.1 c.args.pass.now.listing;
+      walking = path_still x y _ _ _ (told.3) t.1.4 c.args.pass.now.walking;
     }
 
 pub returns-clause-told : goal.returns-clause-told
@@ -49,3 +51,9 @@ returns-clause-learnt g c = let x : Whole = c.args.pass.now.seat.me.0 in let v :
 pub returns-clause-aim : goal.returns-clause-aim
 returns-clause-aim g c = let x : Whole = c.args.pass.now.seat.me.0 in let v : View = x.view in let z : Size = size_of c.args.board.now.table.shared.key in let p : Place = at_clock in let inside : Inside z p = tt in let y : Whole = c.load.new.seat.me.0 in
     let told = told_at v z 0 (SeesClock x c.load.result c.load.new.seat.me.0) p c.requires.pass.1 c.load.ensures.2.2 inside refl in told.2
+
+pub returns-clause-pass : goal.returns-clause-pass
+returns-clause-pass g c = let x : Whole = c.args.pass.now.seat.me.0 in let v : View = x.view in let z : Size = size_of c.args.board.now.table.shared.key in let p : Place = at_clock in let inside : Inside z p = tt in
+    let t = c.load.ensures.2 in let y : Whole = c.load.new.seat.me.0 in
+    let told = told_at v z 0 (SeesClock x c.load.result c.load.new.seat.me.0) p c.requires.pass.1 c.load.ensures.2.2 inside refl in
+    (search rules, refl, (told.3, refl))

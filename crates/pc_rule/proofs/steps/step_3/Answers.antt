@@ -1,5 +1,5 @@
 -- The step's lemma, at the address of the word.
-use Rattle.std.proofs.Common.{◌≡◌, ap, ◌∙◌, sym, refl}
+use Rattle.std.proofs.Common.{◌≡◌, ap, ◌∙◌, sym, refl, rules}
 use Rattle.pc_rule_law.specs.Board.{Size, Place, at_own, own_install, Inside}
 use Rattle.pc_rule_law.specs.Views.{View}
 use Rattle.pc_rule_law.specs.Tables.{size_of}
@@ -12,6 +12,7 @@ use Rattle.pc_rule.specs.Passes.{number_after}
 use Rattle.pc_rule.proofs.Numbers.{number_stored}
 use Rattle.pc_rule.proofs.Listing.{still_listed}
 use Rattle.pc_rule.proofs.Telling.{told_at}
+use Rattle.pc_rule.proofs.Walking.{path_still}
 use Rattle.pc_rule.proofs.steps.step_3.Goals as goal
 
 pub store-requires : goal.store-requires
@@ -37,6 +38,7 @@ invariant_of-pass g c = let x : Whole = c.args.pass.now.seat.me.0 in let v : Vie
       roomy = c.args.pass.now.roomy;
       ample = c.args.pass.now.ample;
       listing = still_listed v y.view c.args.pass.now.listed.items t.1 c.args.pass.now.listing;
+      walking = path_still x y _ _ _ (ap (λ (u : Whole). u.path) told) t.1.4 c.args.pass.now.walking;
     }
 
 pub returns-clause-told : goal.returns-clause-told
@@ -46,3 +48,9 @@ returns-clause-told g c = let x : Whole = c.args.pass.now.seat.me.0 in let v : V
 pub returns-clause-learnt : goal.returns-clause-learnt
 returns-clause-learnt g c = let x : Whole = c.args.pass.now.seat.me.0 in let v : View = x.view in let z : Size = size_of c.args.board.now.table.shared.key in let p : Place = at_own v.seat (own_install c.args.place) in let n : c.args.pass.now.index ≡ v.seat = sym c.args.pass.now.numbered in let inside : Inside z p = (c.requires.pass.2, c.requires.place) in let y : Whole = c.store.new.seat.me.0 in
     let told = told_at v z c.own_word-word.result (StoredInstall x c.args.new c.store.new.seat.me.0) p c.requires.pass.1 c.store.ensures.2.2 inside (rw (c.own_word-word.ensures, n) refl) refl in (ap (λ (u : Whole). u.knows) told, ap (λ (u : Whole). u.aim) told)
+
+pub returns-clause-pass : goal.returns-clause-pass
+returns-clause-pass g c = let x : Whole = c.args.pass.now.seat.me.0 in let v : View = x.view in let z : Size = size_of c.args.board.now.table.shared.key in let p : Place = at_own v.seat (own_install c.args.place) in let n : c.args.pass.now.index ≡ v.seat = sym c.args.pass.now.numbered in let inside : Inside z p = (c.requires.pass.2, c.requires.place) in
+    let t = c.store.ensures.2 in let y : Whole = c.store.new.seat.me.0 in
+    let told = told_at v z c.own_word-word.result (StoredInstall x c.args.new c.store.new.seat.me.0) p c.requires.pass.1 c.store.ensures.2.2 inside (rw (c.own_word-word.ensures, n) refl) refl in
+    (search rules, refl, (ap (λ (u : Whole). u.path) told, refl))

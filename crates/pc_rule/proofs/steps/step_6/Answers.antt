@@ -1,5 +1,5 @@
 -- The step's lemma, at the address of the word.
-use Rattle.std.proofs.Common.{◌≡◌, ap, ◌∙◌}
+use Rattle.std.proofs.Common.{◌≡◌, ap, ◌∙◌, rules, refl}
 use Rattle.pc_rule_law.specs.Board.{Size, Place, at_cell, Inside}
 use Rattle.pc_rule_law.specs.Views.{View, OwnAttempt}
 use Rattle.pc_rule_law.specs.Tables.{size_of}
@@ -12,6 +12,7 @@ use mathlib.Core.Logic.{dite}
 use native.Mathlib.Decide.{ℕ_discrete}
 use Rattle.pc_rule.proofs.Listing.{still_listed}
 use Rattle.pc_rule.proofs.Telling.{told_at}
+use Rattle.pc_rule.proofs.Walking.{path_still}
 use Rattle.pc_rule.proofs.steps.step_6.Goals as goal
 
 pub compare_exchange-requires : goal.compare_exchange-requires
@@ -39,6 +40,7 @@ invariant_of-pass g c = let x : Whole = c.args.pass.now.seat.me.0 in let v : Vie
       roomy = c.args.pass.now.roomy;
       ample = c.args.pass.now.ample;
       listing = still_listed v y.view c.args.pass.now.listed.items t.1 c.args.pass.now.listing;
+      walking = path_still x y _ _ _ (told.1.path) t.1.4 c.args.pass.now.walking;
     }
 
 pub returns-clause-told : goal.returns-clause-told
@@ -48,3 +50,19 @@ returns-clause-told g c = let x : Whole = c.args.pass.now.seat.me.0 in let v : V
 pub returns-clause-learnt : goal.returns-clause-learnt
 returns-clause-learnt g c = let x : Whole = c.args.pass.now.seat.me.0 in let v : View = x.view in let z : Size = size_of c.args.board.now.table.shared.key in let p : Place = at_cell c.args.node c.args.field in let inside : Inside z p = c.requires.inside in let y : Whole = c.compare_exchange.new.seat.me.0 in
     let told = told_at v z c.cell_word-word.result (WholePlaced x c.args.old c.args.new c.compare_exchange.result c.compare_exchange.new.seat.me.0) p c.requires.pass.1 c.compare_exchange.ensures.2.2 inside c.cell_word-word.ensures in told.1
+
+pub returns-clause-outdated : goal.returns-clause-outdated
+returns-clause-outdated g c = let x : Whole = c.args.pass.now.seat.me.0 in let v : View = x.view in let z : Size = size_of c.args.board.now.table.shared.key in let p : Place = at_cell c.args.node c.args.field in let inside : Inside z p = c.requires.inside in let y : Whole = c.compare_exchange.new.seat.me.0 in
+    let told = told_at v z c.cell_word-word.result (WholePlaced x c.args.old c.args.new c.compare_exchange.result c.compare_exchange.new.seat.me.0) p c.requires.pass.1 c.compare_exchange.ensures.2.2 inside c.cell_word-word.ensures in told.2
+
+pub returns-clause-present : goal.returns-clause-present
+returns-clause-present g c = let x : Whole = c.args.pass.now.seat.me.0 in let v : View = x.view in let z : Size = size_of c.args.board.now.table.shared.key in let p : Place = at_cell c.args.node c.args.field in let inside : Inside z p = c.requires.inside in let y : Whole = c.compare_exchange.new.seat.me.0 in
+    let told = told_at v z c.cell_word-word.result (WholePlaced x c.args.old c.args.new c.compare_exchange.result c.compare_exchange.new.seat.me.0) p c.requires.pass.1 c.compare_exchange.ensures.2.2 inside c.cell_word-word.ensures in told.3
+
+pub returns-clause-pass : goal.returns-clause-pass
+returns-clause-pass g c = let x : Whole = c.args.pass.now.seat.me.0 in let v : View = x.view in let z : Size = size_of c.args.board.now.table.shared.key in let p : Place = at_cell c.args.node c.args.field in let inside : Inside z p = c.requires.inside in
+    let t = c.compare_exchange.ensures.2 in let y : Whole = c.compare_exchange.new.seat.me.0 in
+    let told = told_at v z c.cell_word-word.result (WholePlaced x c.args.old c.args.new c.compare_exchange.result c.compare_exchange.new.seat.me.0) p c.requires.pass.1 c.compare_exchange.ensures.2.2 inside c.cell_word-word.ensures in
+    let same : y.view.install.number ≡ v.install.number = dite (ℕ_discrete c.compare_exchange.result c.args.old) (λ e. ap (λ (u : View). u.install.number) (told.0.hit e)) (λ ne. ap (λ (u : View). u.install.number) (told.0.miss ne)) in
+    let mine : y.view.attempt ≡ v.attempt = dite (ℕ_discrete c.compare_exchange.result c.args.old) (λ e. ap (λ (u : View). u.attempt) (told.0.hit e)) (λ ne. ap (λ (u : View). u.attempt) (told.0.miss ne)) in
+    (search rules, refl, (told.1.path, refl))

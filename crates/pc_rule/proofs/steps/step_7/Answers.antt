@@ -1,5 +1,5 @@
 -- The step's lemma, at the address of the word.
-use Rattle.std.proofs.Common.{◌-◌, ap, ◌∙◌, arith}
+use Rattle.std.proofs.Common.{◌-◌, ap, ◌∙◌, arith, rules, refl}
 use Rattle.pc_rule_law.specs.Board.{Size, Place, at_own, own_status, Inside}
 use Rattle.pc_rule_law.specs.Views.{View}
 use Rattle.pc_rule_law.specs.Tables.{size_of}
@@ -10,6 +10,7 @@ use Rattle.pc_exchange_law.proofs.WholeLooks.{whole_load_status}
 use Rattle.pc_rule.proofs.Attempts.{agree_still}
 use Rattle.pc_rule.proofs.Listing.{still_listed}
 use Rattle.pc_rule.proofs.Telling.{told_at}
+use Rattle.pc_rule.proofs.Walking.{path_still}
 use Rattle.pc_rule.proofs.steps.step_7.Goals as goal
 
 pub load-requires : goal.load-requires
@@ -35,6 +36,7 @@ invariant_of-pass g c = let x : Whole = c.args.pass.now.seat.me.0 in let v : Vie
       roomy = c.args.pass.now.roomy;
       ample = c.args.pass.now.ample;
       listing = still_listed v y.view c.args.pass.now.listed.items t.1 c.args.pass.now.listing;
+      walking = path_still x y _ _ _ (told.5) t.1.4 c.args.pass.now.walking;
     }
 
 pub returns-clause-word : goal.returns-clause-word
@@ -52,3 +54,13 @@ returns-clause-learnt g c = let x : Whole = c.args.pass.now.seat.me.0 in let v :
 pub returns-clause-aim : goal.returns-clause-aim
 returns-clause-aim g c = let x : Whole = c.args.pass.now.seat.me.0 in let v : View = x.view in let z : Size = size_of c.args.board.now.table.shared.key in let p : Place = at_own (c.args.of - 1) own_status in let inside : Inside z p = ((let of = c.requires.of in omega arith), tt) in let y : Whole = c.load.new.seat.me.0 in
     let told = told_at v z c.own_word-word.result (SeesStatus x c.load.result c.load.new.seat.me.0) p c.requires.pass.1 c.load.ensures.2.2 inside c.own_word-word.ensures in told.3
+
+pub returns-clause-own : goal.returns-clause-own
+returns-clause-own g c = let x : Whole = c.args.pass.now.seat.me.0 in let v : View = x.view in let z : Size = size_of c.args.board.now.table.shared.key in let p : Place = at_own (c.args.of - 1) own_status in let inside : Inside z p = ((let of = c.requires.of in omega arith), tt) in let y : Whole = c.load.new.seat.me.0 in
+    let told = told_at v z c.own_word-word.result (SeesStatus x c.load.result c.load.new.seat.me.0) p c.requires.pass.1 c.load.ensures.2.2 inside c.own_word-word.ensures in told.4
+
+pub returns-clause-pass : goal.returns-clause-pass
+returns-clause-pass g c = let x : Whole = c.args.pass.now.seat.me.0 in let v : View = x.view in let z : Size = size_of c.args.board.now.table.shared.key in let p : Place = at_own (c.args.of - 1) own_status in let inside : Inside z p = ((let of = c.requires.of in omega arith), tt) in
+    let t = c.load.ensures.2 in let y : Whole = c.load.new.seat.me.0 in
+    let told = told_at v z c.own_word-word.result (SeesStatus x c.load.result c.load.new.seat.me.0) p c.requires.pass.1 c.load.ensures.2.2 inside c.own_word-word.ensures in
+    (search rules, refl, (told.5, refl))

@@ -1,5 +1,5 @@
 -- The step's lemma, at the address of the word.
-use Rattle.std.proofs.Common.{ap, ◌∙◌}
+use Rattle.std.proofs.Common.{ap, ◌∙◌, rules, refl}
 use Rattle.pc_rule_law.specs.Board.{Size, Place, at_cell, Inside}
 use Rattle.pc_rule_law.specs.Views.{View}
 use Rattle.pc_rule_law.specs.Tables.{size_of}
@@ -10,6 +10,7 @@ use Rattle.pc_exchange_law.proofs.WholeWords.{whole_take}
 use Rattle.pc_rule.proofs.Attempts.{agree_still, swapped_own}
 use Rattle.pc_rule.proofs.Listing.{still_listed}
 use Rattle.pc_rule.proofs.Telling.{told_at}
+use Rattle.pc_rule.proofs.Walking.{path_still}
 use Rattle.pc_rule.proofs.steps.step_8.Goals as goal
 
 pub compare_exchange-requires : goal.compare_exchange-requires
@@ -35,6 +36,7 @@ invariant_of-pass g c = let x : Whole = c.args.pass.now.seat.me.0 in let v : Vie
       roomy = c.args.pass.now.roomy;
       ample = c.args.pass.now.ample;
       listing = still_listed v y.view c.args.pass.now.listed.items t.1 c.args.pass.now.listing;
+      walking = path_still x y _ _ _ (told.1.path) t.1.4 c.args.pass.now.walking;
     }
 
 pub returns-clause-told : goal.returns-clause-told
@@ -44,3 +46,9 @@ returns-clause-told g c = let x : Whole = c.args.pass.now.seat.me.0 in let v : V
 pub returns-clause-learnt : goal.returns-clause-learnt
 returns-clause-learnt g c = let x : Whole = c.args.pass.now.seat.me.0 in let v : View = x.view in let z : Size = size_of c.args.board.now.table.shared.key in let p : Place = at_cell c.args.node c.args.field in let inside : Inside z p = c.requires.inside in let y : Whole = c.compare_exchange.new.seat.me.0 in
     let told = told_at v z c.cell_word-word.result (WholeTaken x c.args.old c.args.new c.compare_exchange.result c.compare_exchange.new.seat.me.0) p c.requires.pass.1 c.compare_exchange.ensures.2.2 inside c.cell_word-word.ensures in told.1
+
+pub returns-clause-pass : goal.returns-clause-pass
+returns-clause-pass g c = let x : Whole = c.args.pass.now.seat.me.0 in let v : View = x.view in let z : Size = size_of c.args.board.now.table.shared.key in let p : Place = at_cell c.args.node c.args.field in let inside : Inside z p = c.requires.inside in
+    let t = c.compare_exchange.ensures.2 in let y : Whole = c.compare_exchange.new.seat.me.0 in
+    let told = told_at v z c.cell_word-word.result (WholeTaken x c.args.old c.args.new c.compare_exchange.result c.compare_exchange.new.seat.me.0) p c.requires.pass.1 c.compare_exchange.ensures.2.2 inside c.cell_word-word.ensures in
+    (search rules, refl, (told.1.path, refl))

@@ -1,4 +1,4 @@
-use Rattle.std.proofs.Common.{rules, ◌≡◌, ℕ, ◌<◌, List, [], length, sym, ap, ◌∙◌, subst, arith}
+use Rattle.std.proofs.Common.{rules, ◌≡◌, ℕ, ◌+◌, ◌<◌, ◌≤◌, List, [], length, vec_capacity, sym, ap, ◌∙◌, subst, arith}
 use mathlib.Core.Option.{some, some-ne-none}
 use lib.ListN.{get_elem?, get_or}
 use Rattle.pc_rule_law.specs.declared.opening.Opening.{Opening}
@@ -11,13 +11,14 @@ use Rattle.pc_exchange_law.proofs.WholeOpenings.{whole_opening_holds}
 use Rattle.pc_rule.specs.declared.share.Share.{Share}
 use Rattle.pc_rule.proofs.Listing.{none_listed}
 use Rattle.pc_rule.proofs.Starting.{element}
+use Rattle.pc_rule.proofs.Walking.{new_holds}
 use Rattle.pc_rule.specs.Starting.{starting_board}
 use Rattle.pc_rule.proofs.board.Board.first.Goals as goal
 
 pub of_words-requires : goal.of_words-requires
 of_words-requires g c = let o = c.args.opening.now in let z : Size = size_of o in
     let represents : Represents z c.as_slice.result.now (starting_board o) = subst (λ (l : List ℕ). Represents z l (starting_board o)) (sym c.as_slice.ensures.value) c.in_ok-words.ensures in
-    whole_opening_holds g.H.Shape.form z c.as_slice.result.now c.requires.may c.requires.early represents
+    whole_opening_holds g.H.Shape.form z c.as_slice.result.now (λ slots cells sound. (g.H.Shape.laws.linked slots cells sound).sentinel) c.requires.may c.requires.early represents
 
 pub returns-clause-opened : goal.returns-clause-opened
 returns-clause-opened g c = let o = c.args.opening.now in let z : Size = size_of o in
@@ -48,3 +49,9 @@ invariant_of-pass-clause-roomy g c = c.in_ok-entries.ensures.own _ (element c.ar
 
 pub invariant_of-pass-clause-listing : goal.invariant_of-pass-clause-listing
 invariant_of-pass-clause-listing g c = none_listed _ _ c.in_ok-listed.ensures.none
+
+pub invariant_of-pass-clause-walking : goal.invariant_of-pass-clause-walking
+invariant_of-pass-clause-walking g c = let made = c.in_ok-table.ensures in
+    let is : c.in_ok-table.seat.me.0 ≡ first_whole (size_of c.args.opening.now) = ap (λ m. m.0) made.4 in
+    new_holds _ _ _ c.in_ok-visits.ensures.none (ap (λ (x : Whole). x.path.begun) is)
+    (let room = c.in_ok-visits.ensures.room in subst (λ (z : Size). z.slots + 1 ≤ vec_capacity c.in_ok-visits.visits) (sym (ap (λ (x : Whole). x.view.size) is)) room)

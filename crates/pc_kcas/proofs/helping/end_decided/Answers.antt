@@ -1,0 +1,33 @@
+-- The status that is loaded can't say that the exchange is undecided.
+use Rattle.pc_rule.specs.Passes.{whole, view}
+use Rattle.pc_dcss.proofs.Staying.{adds_then}
+use Rattle.pc_kcas.proofs.Courses.{past_loaded, never_open}
+use Rattle.pc_kcas.proofs.Evidence.{goes_then}
+use Rattle.pc_kcas.proofs.Going.{goes_later}
+use Rattle.pc_kcas.proofs.HelpEnds.{cleaned_since, course_loaded}
+use Rattle.pc_kcas.proofs.ReadWords.{come_still}
+use Rattle.pc_kcas.proofs.TakeWords.{free_later}
+use Rattle.pc_kcas.proofs.helping.end_decided.Goals as goal
+
+pub conclude_helped-requires-clause-free : goal.conclude_helped-requires-clause-free
+conclude_helped-requires-clause-free g c = λ _ _.
+    free_later (view c.args.pass.now) (view c.load_status-status.new.pass) c.load_status-status.ensures.loaded.told.later c.requires.free
+
+pub conclude_helped-requires-clause-come : goal.conclude_helped-requires-clause-come
+conclude_helped-requires-clause-come g c = λ _ _. let l = c.load_status-status.ensures.loaded in
+    come_still (whole c.args.pass.now) (whole c.load_status-status.new.pass) c.args.op l.told.later l.learnt.learns c.requires.come
+
+pub conclude_helped-requires-clause-past : goal.conclude_helped-requires-clause-past
+conclude_helped-requires-clause-past g c = λ _ _.
+    let x = whole c.args.pass.now in let k = c.load_status-status in let y = whole k.new.pass in
+    past_loaded x y c.args.op k.result k.ensures.loaded k.ensures.ahead (never_open x y c.args.op k.result k.ensures.loaded c.requires.decided)
+
+pub returns-clause-goes_on : goal.returns-clause-goes_on
+returns-clause-goes_on g c =
+    let x = whole c.args.pass.now in let y = whole c.load_status-status.new.pass in let l = c.load_status-status.ensures.loaded in
+    goes_then x y (whole c.conclude_helped.new.pass) (goes_later x y l.told.later l.learnt.learns) c.conclude_helped.ensures.goes_on
+
+pub returns-clause-come : goal.returns-clause-come
+returns-clause-come g c = λ o left adds _.
+    let x = whole c.args.pass.now in let k = c.load_status-status in let y = whole k.new.pass in let l = k.ensures.loaded in
+    c.conclude_helped.ensures.come o left (adds_then o.view x.view y.view adds l.told.later.adds) (cleaned_since o x y c.args.op k.result adds (course_loaded x y c.args.op k.result l))
