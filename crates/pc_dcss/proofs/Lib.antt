@@ -4,5 +4,6 @@ pub mod Learnt
 pub mod Loads
 pub mod Takes
 pub mod Puts
+pub mod Stored
 pub mod Meeting
 mod WorkedPublication

@@ -1,9 +1,9 @@
 //! An install: the own descriptor, its reference in place of the old value, and the taking.
-ghost use Rattle.std.specs.Prelude.{◌≡◌, ◌≢◌, ◌+◌, ◌<◌, ◌≤◌, ◌^◌, IfOk, IfErr, OnErr, IsErrAnd};
+ghost use Rattle.std.specs.Prelude.{◌≡◌, ◌≢◌, ◌+◌, ◌<◌, ◌≤◌, ◌^◌, true, IfOk, IfErr, OnErr, IsErrAnd};
 ghost use Rattle.pc_words.specs.declared.word.WordKind.TheVariants.{Plain, Exchange as ExchangeWord};
 ghost use Rattle.pc_words.specs.Words.{raw, kind, IsWord};
 ghost use Rattle.pc_rule_law.specs.Board.{place_number};
-ghost use Rattle.pc_rule_law.specs.Plays.{AddsNotes, IsNotedSince};
+ghost use Rattle.pc_rule_law.specs.Plays.{AddsNotes, IsNotedSince, after_store};
 ghost use Rattle.pc_rule_law.specs.Views.{held};
 ghost use Rattle.pc_rule_law.specs.Conditions.{IsFree};
 ghost use Rattle.pc_rule.specs.declared.refs.RefKind.TheVariants.{Exchange};
@@ -64,6 +64,21 @@ fn refusal(op: Ref, found: u64) -> Installed
     }
 }
 
+// A word of the own descriptor behind the number: it is stored, unless it stands there already.
+fn store_word<H: Shape>(board: &Board<H>, pass: &mut Pass<H>, place: u32, word: u64)
+    requires pass { IsPassOf board.now pass.old }
+    requires place { (1 ≤ place) × (place < 4) }
+    requires fresh { (view pass.old).fresh ≡ true }
+    ensures pass { IsSamePass pass.old pass.new }
+    ensures learns { Learns (knows pass.old) (knows pass.new) }
+    ensures told { view pass.new ≡ after_store (view pass.old) place word }
+{
+    if pass.install_word(place) == word {
+        return;
+    }
+    step_3(board, pass, place, word);
+}
+
 // The own descriptor: a fresh number first, and then what the install is for. A pass that looks at an older install sees
 // that its number has gone before it sees another word.
 fn describe<H: Shape>(board: &Board<H>, pass: &mut Pass<H>, number: u64, op: Ref, place: Place)
@@ -78,9 +93,9 @@ fn describe<H: Shape>(board: &Board<H>, pass: &mut Pass<H>, number: u64, op: Ref
     let op_word = exchange_ref(op.seat, op.number);
     let place_word = 8 * u64::from(place.node) + number_of(place.field);
     step_3(board, pass, 0, number);
-    step_3(board, pass, 1, op_word);
-    step_3(board, pass, 2, place_word);
-    step_3(board, pass, 3, place.old);
+    store_word(board, pass, 1, op_word);
+    store_word(board, pass, 2, place_word);
+    store_word(board, pass, 3, place.old);
 }
 
 // The own install in place of the old value.

@@ -13,6 +13,7 @@ pub mod OldNumbers
 pub mod OwnAttempts
 pub mod Passes
 pub mod Paths
+pub mod SeenStamps
 pub mod Serving
 pub mod Statuses
 pub mod TieDecisions

@@ -1,5 +1,5 @@
 -- The run of a tied board: its list, and that it leaves the plain values, which are sound where each exchange fits.
-use Rattle.std.proofs.Common.{◌≡◌, ℕ, ◌<◌, inl, inr, ⊎_elim, Some, refl, sym, ap, ◌∙◌, subst}
+use Rattle.std.proofs.Common.{◌≡◌, ℕ, ◌<◌, inl, inr, ⊎_elim, [], None, Some, refl, sym, ap, ◌∙◌, subst}
 use Rattle.pc_model.specs.declared.cell.Field.{Field}
 use Rattle.pc_model.specs.Exchanges.{Exchange as PathExchange}
 use Rattle.pc_model.specs.Forms.{Form, IsSound, Fits}
@@ -14,9 +14,9 @@ use Rattle.pc_protocol.specs.Histories.{committed, History, cells_now, IsPublish
 use Rattle.pc_protocol.specs.Rules.{Rule}
 use Rattle.pc_protocol.specs.ProtocolLaws.{StandsInRun}
 use Rattle.pc_protocol.proofs.Protocol.{rule_tells, cells_stay_sound}
-use Rattle.pc_protocol.proofs.Stages.{committed_is_published, used_not_spare}
+use Rattle.pc_protocol.proofs.Stages.{none_not_some, some_same, committed_is_published, used_not_spare}
 use Rattle.pc_exchange_law.specs.Ties.{code, seat_in, number_in, IsStageOf, exchange_of, IsTied}
-use Rattle.pc_exchange_law.specs.TieLaws.{run_up_to, IsOfRun, RunTells, RunIsShown, PlainValuesAreSound}
+use Rattle.pc_exchange_law.specs.TieLaws.{run_up_to, IsOfRun, maker_of, RunTells, RunIsShown, PlainValuesAreSound}
 use Rattle.pc_exchange_law.proofs.Codes.{seat_is_small, code_of}
 
 module _ (b : Board) (t : Past) (h : History) (rule : Rule h) (tied : IsTied b t h) where
@@ -61,11 +61,33 @@ module _ (b : Board) (t : Past) (h : History) (rule : Rule h) (tied : IsTied b t
       (λ drawn. inr (of_number x drawn.0 drawn.2 drawn.3))
       stands.taken
 
+  -- what stands at a stamp is of the exchange for which that was drawn
+  made_at : (x : Stamped) (y : ℕ) → IsAmong x (run_up_to h) → maker_of (h.drawn_for x.stamp) ≡ Some y → h.stage y ≡ committed x.stamp
+  made_at x y among is =
+      let stands : StandsInRun h x.stamp x.what = (rule_tells h rule).item_stands x.stamp x.what (is_list.only x among).1 in
+      ⊎_elim
+      (λ read. absurd (none_not_some y (ap maker_of (sym read.0.1) ∙ is)))
+      (λ drawn. subst (λ (z : ℕ). h.stage z ≡ committed x.stamp) (some_same drawn.0 y (ap maker_of (sym drawn.1) ∙ is)) drawn.2)
+      stands.taken
+
+  unmade_at : (x : Stamped) → IsAmong x (run_up_to h) → maker_of (h.drawn_for x.stamp) ≡ None
+      → (x.what.changes ≡ []) × (x.what.fresh ≡ None)
+  unmade_at x among is =
+      let stands : StandsInRun h x.stamp x.what = (rule_tells h rule).item_stands x.stamp x.what (is_list.only x among).1 in
+      ⊎_elim
+      (λ read. (read.1, read.2))
+      (λ drawn. absurd (none_not_some drawn.0 (sym is ∙ ap maker_of drawn.1)))
+      stands.taken
+
   pub run_tells : RunTells b t h
   run_tells = record {
     world = is_list.world;
     below = λ x among. subst (λ (c : ℕ). x.stamp < c) tied.clock (is_list.only x among).0;
     each = of_run;
+    made = made_at;
+    unmade = unmade_at;
+    maker = λ y s is. ap maker_of (rule.standing y s is).0.1;
+    since = λ y s is. (rule.drawn y s (rule.standing y s is).0).1;
     leaves = leaves_plain;
     item_stands = λ s e item. is_list.all s e ((rule_tells h rule).item_stands s e item).below item;
     committed_stands = stands_at;

@@ -23,6 +23,8 @@ use Rattle.pc_rule_law.proofs.InstallLooks.{install_looks}
 use Rattle.pc_rule_law.proofs.StatusLooks.{status_looks}
 use Rattle.pc_protocol.specs.Histories.{withdrawn, ended, aborted, History}
 use Rattle.pc_protocol.specs.Notes.{verdict, IsTrueNote}
+use Rattle.pc_exchange_law.proofs.SeenStamps.{seen_below}
+use Rattle.pc_exchange_law.specs.Knowing.{IsAboveSeen}
 use Rattle.pc_exchange_law.specs.Ties.{code, last_stamp}
 use Rattle.pc_exchange_law.specs.Knowing.{LoadsTellPasses, StatusSeen, WordSeen, after_clock}
 use Rattle.pc_exchange_law.specs.Passes.{PassKnows, IsKnown}
@@ -68,6 +70,8 @@ module _ (form : Form) (z : Size) where
               late = e.3;
               ended = λ i has. (board_tells b t h k.world.rule k.world.tied).ran_out i
                   ((known_here form z b t h late views k id x at live).told (verdict i (aborted ended)) has);
+              above = subst (IsAboveSeen x.knows.told) k.world.tied.clock
+                  (seen_below h k.world.rule x.knows.told (known_here form z b t h late views k id x at live).told);
             },
             refl,
             refl,

@@ -21,9 +21,10 @@ use Rattle.pc_rule_law.specs.Rule.{Kept}
 use Rattle.pc_rule_law.specs.Views.{clean, View, NoteHolds}
 use Rattle.pc_rule_law.proofs.Keeping.{noted_more}
 use Rattle.pc_rule_law.proofs.Lists.{all_more, all_none, below_length, each_moved, has_first, has_later}
-use Rattle.pc_protocol.specs.Histories.{for_read, History}
-use Rattle.pc_protocol.specs.Notes.{Found, Note as RunNote, value, clock_was, looked, in_run, IsTrueNote}
+use Rattle.pc_protocol.specs.Histories.{for_read, committed, History}
+use Rattle.pc_protocol.specs.Notes.{Found, Note as RunNote, value, clock_was, looked, drew, verdict, in_run, IsTrueNote}
 use Rattle.pc_protocol.specs.Owned.{IsUnread}
+use Rattle.pc_protocol.specs.Rules.{Rule}
 use Rattle.pc_protocol.specs.Steps.{Keeps, draw, take_read}
 use Rattle.pc_protocol.specs.Telling.{found_in}
 use Rattle.pc_protocol.proofs.Bases.{bases_still}
@@ -31,9 +32,10 @@ use Rattle.pc_protocol.proofs.Loads.{loads_tell}
 use Rattle.pc_protocol.proofs.Owned.{steps_keep_owned}
 use Rattle.pc_protocol.proofs.Reading.{read_keeps}
 use Rattle.pc_protocol.proofs.Stages.{used_not_spare}
+use Rattle.pc_exchange_law.proofs.SeenStamps.{seen_below}
 use Rattle.pc_exchange_law.specs.Attempts.{Scripts}
 use Rattle.pc_exchange_law.specs.Changes.{with_next_stamp}
-use Rattle.pc_exchange_law.specs.Knowing.{with_more, Learns, after_read_draw, after_refusal}
+use Rattle.pc_exchange_law.specs.Knowing.{with_more, Learns, IsAboveSeen, after_read_draw, after_refusal}
 use Rattle.pc_exchange_law.specs.Passes.{PassKnows, IsKnown}
 use Rattle.pc_exchange_law.specs.Paths.{Path, read_of, IsPathOf, MayCheck, with_stamp, with_left, without_stamp}
 use Rattle.pc_exchange_law.specs.Ties.{last_stamp, reference_in, IsTied}
@@ -87,8 +89,8 @@ module _ (form : Form) (z : Size) where
       let h' : History = draw h (for_read id) in let b' : Board = with_next_stamp b in
       let then : IsKnown b' t t.words h' step.0 id (after_refusal x.knows b.clock) = subst
       (λ (s : ℕ). IsKnown b' t t.words h' step.0 id (after_refusal x.knows s)) same step.1.1 in
-      let above : (c : ℕ) → Has x.knows.told (clock_was c) → c ≤ b.clock = λ c has.
-      let was : c ≤ h.clock = known.told (clock_was c) has in omega arith in
+      let above : IsAboveSeen x.knows.told b.clock = subst (IsAboveSeen x.knows.told) same
+      (seen_below h k.world.rule x.knows.told known.told) in
       ⊎_elim
       (λ early. drawn form z id x live b t h late views k at h' step.0 (after_read_draw x.knows b.clock) (with_stamp x.path b.clock)
       (λ y. SameSeat x.view y.view × DrawsRead x b.clock y at_clock)

@@ -1,6 +1,6 @@
 -- What each kind of step of an exchange tells the pass that makes it: what it notes of what it found, and what it has
 -- of its own attempt afterwards.
-use Rattle.std.specs.Prelude.{◌≡◌, ℕ, ◌+◌, ◌<◌, Bool, true, false, List, [], ◌∷◌, ◌++◌}
+use Rattle.std.specs.Prelude.{◌≡◌, ℕ, ◌+◌, ◌<◌, ◌≤◌, ◌⊎◌, Bool, true, false, List, [], ◌∷◌, ◌++◌}
 use Rattle.pc_model.specs.declared.cell.Field.{Field}
 use Rattle.pc_model.specs.declared.cell.Field.TheVariants.{Version}
 use Rattle.pc_model.specs.Exchanges.{Exchange as PathExchange}
@@ -11,8 +11,8 @@ use Rattle.pc_words.specs.declared.status.Status.{Status}
 use Rattle.pc_rule_law.specs.Board.{Board}
 use Rattle.pc_rule_law.specs.Past.{Has, Past}
 use Rattle.pc_rule_law.specs.Stages.{IsIdle, IsOpen}
-use Rattle.pc_protocol.specs.Histories.{Stage, History}
-use Rattle.pc_protocol.specs.Notes.{Note, clock_was, visited, read_word, published, held, drew, verdict, rival, outdated}
+use Rattle.pc_protocol.specs.Histories.{committed, Stage, History}
+use Rattle.pc_protocol.specs.Notes.{Note, clock_was, visited, read_word, published, held, drew, verdict, rival, in_run, outdated}
 use Rattle.pc_exchange_law.specs.Ties.{code, last_stamp, IsStageOf}
 use Rattle.pc_exchange_law.specs.Attempts.{Scripts, AttemptNote, came_to, loaded_word, listed_word, calm, calm_but}
 use Rattle.pc_exchange_law.specs.Passes.{PassKnows, IsKnown}
@@ -80,6 +80,16 @@ after_publication k x e c = record (with_more k [] (published x e c ∷ [])) { o
 -- a draw for exchange x at a stamp; and, below, one that is refused at this clock
 abbrev pub after_draw : PassKnows → ℕ → ℕ → PassKnows
 after_draw k x s = record (with_more k [] (drew x s ∷ [])) { ready = false }
+
+-- with these notes a pass has seen this stamp: it drew it for an exchange, or an exchange or a read took effect at it. One that
+-- it drew for a read is below what the clock has come to
+abbrev pub HasSeenStamp : List Note → ℕ → Type 0
+HasSeenStamp told s = ((x : ℕ) × Has told (drew x s)) ⊎ (((x : ℕ) × Has told (verdict x (committed s))) ⊎ ((e : PathExchange) × Has told (in_run s e)))
+
+-- a stamp isn't below what the clock was seen to have come to, and it is above each stamp that was seen
+pub record IsAboveSeen (told : List Note) (s : ℕ) : Type 0 where
+  pub clock : (c : ℕ) → Has told (clock_was c) → c ≤ s
+  pub stamps : (t : ℕ) → HasSeenStamp told t → t < s
 
 -- a draw for a read: the clock has come above the stamp
 abbrev pub after_read_draw : PassKnows → ℕ → PassKnows

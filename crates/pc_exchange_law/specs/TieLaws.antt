@@ -1,5 +1,5 @@
 -- The laws of the tie: of a board that opens, of each step, of what loads tell, and of the run at the end.
-use Rattle.std.specs.Prelude.{◌≡◌, ◌≢◌, ℕ, ◌+◌, ◌<◌, ◌≤◌, ◌⊎◌, List, [], Some, None, false}
+use Rattle.std.specs.Prelude.{◌≡◌, ◌≢◌, ℕ, ◌+◌, ◌<◌, ◌≤◌, ◌⊎◌, List, [], Option, Some, None, false}
 use Rattle.pc_model.specs.declared.cell.Field.{Field}
 use Rattle.pc_model.specs.declared.cell.Field.TheVariants.{Version}
 use Rattle.pc_model.specs.Cells.{Cells}
@@ -17,7 +17,7 @@ use Rattle.pc_rule_law.specs.Rule.{Shared}
 use Rattle.pc_rule_law.specs.Values.{IsPlainValue}
 use Rattle.pc_rule_law.specs.Openings.{opening_board, opening_attempt, opening_words}
 use Rattle.pc_rule_law.specs.Seats.{opening_past}
-use Rattle.pc_protocol.specs.Histories.{for_exchange, for_read, Cause, withdrawn, ended, changed, locked, Stage, committed, aborted, used}
+use Rattle.pc_protocol.specs.Histories.{Purpose, for_exchange, for_read, Cause, withdrawn, ended, changed, locked, Stage, committed, aborted, used}
 use Rattle.pc_protocol.specs.Histories.{History, IsPublished, IsUndecided, value_by}
 use Rattle.pc_protocol.specs.Rules.{Rule}
 use Rattle.pc_protocol.specs.Notes.{clock_was, visited, read_word, held, drew, verdict, rival, in_run, outdated, IsTrueNote}
@@ -167,11 +167,24 @@ abbrev pub IsOfRun : Past → History → Stamped → Type 0
 IsOfRun t h x = ((x.what.changes ≡ []) × (x.what.fresh ≡ None))
     ⊎ ((p : ℕ) × (a : ℕ) × (p < 64) × (h.stage (code p a) ≡ committed x.stamp) × (x.what ≡ exchange_of (t.attempt p a)))
 
+-- whose exchange stands at a stamp: that for which the stamp was drawn; none, where it was drawn for a read
+abbrev pub maker_of : Purpose → Option ℕ
+maker_of (for_exchange x) = Some x
+maker_of (for_read p) = None
+
 pub record RunTells (b : Board) (t : Past) (h : History) : Type 0 where
   -- stamps rise, and each exchange stands in the cells that the earlier ones leave from those of the opening
   pub world : IsWorldRun h.opening 0 (run_up_to h)
   pub below : (x : Stamped) → IsAmong x (run_up_to h) → x.stamp < b.clock
   pub each : (x : Stamped) → IsAmong x (run_up_to h) → IsOfRun t h x
+  -- whose each is: an exchange stands at the one stamp at which it took effect, and what is of none changes nothing
+  pub made : (x : Stamped) (y : ℕ) → IsAmong x (run_up_to h) → maker_of (h.drawn_for x.stamp) ≡ Some y
+      → h.stage y ≡ committed x.stamp
+  pub unmade : (x : Stamped) → IsAmong x (run_up_to h) → maker_of (h.drawn_for x.stamp) ≡ None
+      → (x.what.changes ≡ []) × (x.what.fresh ≡ None)
+  pub maker : (y s : ℕ) → h.stage y ≡ committed s → maker_of (h.drawn_for s) ≡ Some y
+  -- at a stamp that isn't below the clock that was read before its publication
+  pub since : (y s : ℕ) → h.stage y ≡ committed s → h.published_at y ≤ s
   -- the cells that they leave are the plain values
   pub leaves : (n : ℕ) (f : Field) → cells_after h.opening (run_up_to h) n f ≡ t.plain n f
   -- what took effect at a stamp, an attempt or a read, stands in it

@@ -27,7 +27,7 @@ use Rattle.pc_exchange_law.specs.Ties.{code, last_stamp, exchange_of}
 use Rattle.pc_exchange_law.specs.ExchangeConditions.{KnowsCleared}
 use Rattle.pc_exchange_law.specs.Passes.{PassKnows}
 use Rattle.pc_exchange_law.specs.Paths.{Path, read_of, begun_path, ended_path, with_visit, with_read, with_stamp, with_left, without_stamp}
-use Rattle.pc_exchange_law.specs.Knowing.{DescriptorLoaded, StatusSeen, WordSeen, after_clock, after_own_store}
+use Rattle.pc_exchange_law.specs.Knowing.{IsAboveSeen, DescriptorLoaded, StatusSeen, WordSeen, after_clock, after_own_store}
 use Rattle.pc_exchange_law.specs.Knowing.{after_publication, after_draw, after_read_draw, after_refusal, after_decision, after_withdrawal, after_clearing}
 use Rattle.pc_exchange_law.specs.Wholes.{Whole}
 
@@ -47,6 +47,8 @@ pub record ClockSeen (k : PassKnows) (r : ℕ) (k' : PassKnows) : Type 0 where
   pub early : r < last_stamp → k'.ready ≡ true
   pub late : last_stamp ≤ r → k'.ready ≡ false
   pub ended : (x : ℕ) → Has k.told (verdict x (aborted ended)) → last_stamp ≤ r
+  -- it is above each stamp that was seen
+  pub above : IsAboveSeen k.told r
 
 abbrev pub SeesClock : Whole → ℕ → Whole → Place → Type 0
 SeesClock x r y at_clock = ClockLoaded x.view r y.view × ClockSeen x.knows r y.knows × (y.aim ≡ x.aim) × (y.path ≡ x.path)
@@ -242,12 +244,11 @@ abbrev pub SeesVisit : Path → Whole → ℕ → Whole → Place → Type 0
 SeesVisit p x r y (at_cell n Version) = CellSeen x n Version r y × (y.path ≡ with_visit p n (kind r))
 SeesVisit p x r y _ = Unit {0}
 
--- a draw of a stamp for the read of the path; from the last stamp on it is refused. The stamp isn't below anything that the
--- clock is known to have come to
+-- a draw of a stamp for the read of the path; from the last stamp on it is refused
 pub record ReadDrawn (x : Whole) (r : ℕ) (y : Whole) : Type 0 where
   pub stamped : r < last_stamp → y ≡ record x { knows = after_read_draw x.knows r; path = with_stamp x.path r }
   pub refused : last_stamp ≤ r → y ≡ record x { knows = after_refusal x.knows r }
-  pub above : (c : ℕ) → Has x.knows.told (clock_was c) → c ≤ r
+  pub above : IsAboveSeen x.knows.told r
 
 abbrev pub DrawsRead : Whole → ℕ → Whole → Place → Type 0
 DrawsRead x r y at_clock = ReadDrawn x r y

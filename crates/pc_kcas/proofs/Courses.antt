@@ -1,11 +1,12 @@
 -- What a status of an exchange's pass tells of how far that has come.
-use Rattle.std.proofs.Common.{◌≡◌, ℕ, ◌+◌, ◌<◌, ◌≤◌, refl, sym, ⊎_elim, arith}
+use Rattle.std.proofs.Common.{◌≡◌, ℕ, ◌+◌, ◌<◌, ◌≤◌, refl, sym, subst, ⊎_elim, arith}
 use Rattle.std.proofs.lemmas.Bool.{cases_order}
 use Rattle.pc_words.specs.declared.status.Stage.{Stage}
 use Rattle.pc_words.specs.declared.status.Stage.TheVariants.{Idle, Undecided, Succeeded, Withdrawn, Changed, Locked}
 use Rattle.pc_words.specs.declared.status.Status.{Status}
 use Rattle.pc_rule_law.specs.Plays.{StatusLoaded}
-use Rattle.pc_rule_law.specs.Stages.{IsOpen, decided_from, decided_by}
+use Rattle.pc_rule_law.specs.Past.{Has}
+use Rattle.pc_rule_law.specs.Stages.{IsIdle, IsOpen, decided_from, decided_by}
 use Rattle.pc_rule_law.specs.Views.{View, decided_below, held}
 use Rattle.pc_exchange_law.specs.Knowing.{StatusSeen}
 use Rattle.pc_exchange_law.specs.Wholes.{Whole}
@@ -49,7 +50,17 @@ closed_below a s ahead closed = ⊎_elim
     (λ (gt : s.number < a). absurd (omega arith)) ne)
     (cases_order a s.number)
 
--- ---- a status that was found
+-- ---- a status that was found, or put
+
+-- one that says that the exchange is decided and not cleared
+pub course_put : (x y : Whole) (op : Ref) (st : Stage) → Has y.view.notes (decided_below op.seat (op.number + 1)) → (IsIdle st → ⊥)
+    → (IsOpen st → ⊥) → TellsCourse x y op (record { number = op.number; stage = st })
+unfolding below_open
+course_put x y op st known busy closed = record {
+  below = subst (λ (m : ℕ). Has y.view.notes (decided_below op.seat m)) (sym (below_open op.number st closed)) known;
+  passed = λ lt. absurd (omega arith);
+  cleaned = λ c. ⊎_elim (λ (lt : op.number < op.number). absurd (omega arith)) (λ i. absurd (busy i.1)) c;
+}
 
 pub course_seen : (x y : Whole) (op : Ref) (s : Status) → StatusLoaded x.view op.seat s y.view → StatusSeen x.knows op.seat s y.knows → TellsCourse x y op s
 course_seen x y op s told seen = record {

@@ -7,7 +7,7 @@ use Rattle.pc_rule_law.specs.Past.{Has}
 use Rattle.pc_rule_law.specs.Openings.{attempt_of}
 use Rattle.pc_rule_law.specs.Stages.{IsIdle, IsOpen, decided_from, decided_by}
 use Rattle.pc_rule_law.specs.Views.{View, decided_below}
-use Rattle.pc_protocol.specs.Histories.{Stage, committed, aborted, ended}
+use Rattle.pc_protocol.specs.Histories.{Cause, withdrawn, ended, changed, locked, Stage, committed, aborted}
 use Rattle.pc_protocol.specs.Notes.{Note, clock_was, outdated, published, verdict}
 use Rattle.pc_exchange_law.specs.Ties.{code, exchange_of, last_stamp, IsStageOf}
 use Rattle.pc_exchange_law.specs.WholePlays.{after_clear}
@@ -23,7 +23,7 @@ use Rattle.pc_kcas.specs.declared.verdict.Verdict.TheVariants.{Won, Changed as C
 use Rattle.pc_kcas.specs.Clearing.{took_effect, says_success, KnowsOutcome, HasCleared}
 use Rattle.pc_kcas.specs.Exchanges.{HasPublished, KnowsOwn}
 use Rattle.pc_kcas.specs.Settling.{HasLearnt, HasLearntOrWithdrawn, KnowsNoVisits, OwnsPublished, StandsAt, IsSettled, TellsFailure}
-use Rattle.pc_kcas.specs.Verdicts.{KnowsRival, KnowsWhy, HasEnded, EndedSo, IsReason, answer_by}
+use Rattle.pc_kcas.specs.Verdicts.{KnowsFailed, KnowsRival, KnowsWhy, HasEnded, EndedSo, IsReason, answer_by}
 use Rattle.pc_kcas.proofs.Cleared.{known_own}
 
 -- an undecided attempt is none of those that are decided
@@ -100,33 +100,57 @@ module _ (y z : Whole) (places : List Place) (s : Status) (clock : ℕ) (has : H
   unfolding owns
   own_status = why.settled.stands.own refl refl (owns y.view places has)
 
-  so_at : (st : StatusStage) → s.stage ≡ st → EndedSo z z.view.attempt.number (answer_by st clock) X
+  -- the own exchange was decided so
+  own_verdict : (st : Stage) → Has y.knows.told (verdict (code y.view.seat s.number) st) → Has z.knows.told (verdict (code z.view.seat z.view.attempt.number) st)
   unfolding told_still own_status
+  own_verdict st h = told_still (λ x. verdict x st) (subst (λ (a : ℕ). Has y.knows.told (verdict (code y.view.seat a) st)) own_status.0 h)
+
+  failed_by : (st : Stage) (cause : Cause) → st ≡ aborted cause → Has y.knows.told (verdict (code y.view.seat s.number) st) → KnowsFailed z z.view.attempt.number cause
+  unfolding own_verdict
+  failed_by st cause e h = subst (λ (t : Stage). Has z.knows.told (verdict (code z.view.seat z.view.attempt.number) t)) e (own_verdict st h)
+
+  so_at : (st : StatusStage) → s.stage ≡ st → EndedSo z z.view.attempt.number (answer_by st clock) X
+  unfolding told_still own_status own_verdict failed_by
   so_at Idle is = absurd (own_status.1 (subst IsIdle (sym is) tt))
   so_at Undecided is = absurd (why.settled.over own_status.0 (subst IsOpen (sym is) tt))
   so_at (Succeeded t) is = let v = why.settled.stands.decided own_status.1 (why.settled.over own_status.0) in
       let e : v.0 ≡ committed t = subst (λ (st : StatusStage). IsStageOf st v.0) is v.1 in
-      told_still (λ x. verdict x (committed t)) (subst (λ (a : ℕ). Has y.knows.told (verdict (code y.view.seat a) (committed t))) own_status.0
-      (subst (λ (st : Stage). Has y.knows.told (verdict (code y.view.seat s.number) st)) e v.2))
-  so_at Withdrawn is = inr (refl, was, last _ (why.ended is))
-  so_at (Changed n) is = told_still (λ x. outdated x n) (why.changed n is)
-  so_at (Locked n q) is = let r = why.locked n q is in let back : q ≡ (q + 1) - 1 = omega arith in (
-    omega arith,
-    subst (λ (by : ℕ). KnowsRival z z.view.attempt.number n by) back (r.0, r.1, told_still (λ x. published x r.0 r.1) r.2, ended'.told _ r.3),
+      own_verdict (committed t) (subst (λ (st : Stage). Has y.knows.told (verdict (code y.view.seat s.number) st)) e v.2)
+  so_at Withdrawn is = (inr (told_still (λ x. verdict x (aborted ended)) (why.ended is)), inr (refl, was, last _ (why.ended is)))
+  so_at (Changed n) is = let v = why.settled.stands.decided own_status.1 (why.settled.over own_status.0) in (
+    failed_by v.0 (changed n) (subst (λ (st : StatusStage). IsStageOf st v.0) is v.1) v.2,
+    told_still (λ x. outdated x n) (why.changed n is),
   )
+  so_at (Locked n q) is = let v = why.settled.stands.decided own_status.1 (why.settled.over own_status.0) in
+      let r = why.locked n q is in let back : q ≡ (q + 1) - 1 = omega arith in (
+        subst (λ (by : ℕ). KnowsFailed z z.view.attempt.number (locked n by)) back (failed_by v.0 (locked n q) (subst (λ (st : StatusStage). IsStageOf st v.0) is v.1) v.2),
+        omega arith,
+        subst (λ (by : ℕ). KnowsRival z z.view.attempt.number n by) back (r.0, r.1, told_still (λ x. published x r.0 r.1) r.2, ended'.told _ r.3),
+      )
 
   pub ended_so : EndedSo z z.view.attempt.number (answer_by s.stage clock) X
   unfolding so_at
   ended_so = so_at s.stage refl
 
 -- it ended for the reason for which it was withdrawn
-pub reason_so : (y z : Whole) (r : Verdict) → IsReason y r → z.view.install.number ≡ y.view.install.number
+pub reason_so : (y z : Whole) (r : Verdict) → IsReason y r → z.view.install.number ≡ y.view.install.number → KnowsFailed z z.view.attempt.number withdrawn
     → EndedSo z z.view.attempt.number r (λ first second. r ≡ Blocked first second)
-reason_so y z (Won s) is same = absurd is
-reason_so y z (ChangedSo n) is same = absurd is
-reason_so y z (LockedSo n by) is same = absurd is
-reason_so y z (Blocked first second) is same = refl
-reason_so y z (Numbers n) is same = inl (is.0, is.1 ∙ sym same, is.2)
+reason_so y z (Won s) is same failed = absurd is
+reason_so y z (ChangedSo n) is same failed = absurd is
+reason_so y z (LockedSo n by) is same failed = absurd is
+reason_so y z (Blocked first second) is same failed = (failed, refl)
+reason_so y z (Numbers n) is same failed = (inl failed, inl (is.0, is.1 ∙ sym same, is.2))
+
+-- what was noted of the own attempt before it was withdrawn, and before it was cleared
+pub own_withdrawn : (x y : Whole) (st : Stage) → HasLearntOrWithdrawn x y → Has y.knows.told (verdict (code x.view.seat x.view.attempt.number) st)
+    → Has y.knows.told (verdict (code y.view.seat y.view.attempt.number) st)
+own_withdrawn x y st l h = subst (λ (p : ℕ). Has y.knows.told (verdict (code p y.view.attempt.number) st)) (sym (ap (λ (v : View). v.seat) l.view.same))
+    (subst (λ (a : ℕ). Has y.knows.told (verdict (code x.view.seat a) st)) (sym (ap (λ (v : View). v.attempt.number) l.view.same)) h)
+
+pub own_noted : (x z : Whole) (st : Stage) → HasEnded x z → Has x.knows.told (verdict (code x.view.seat x.view.attempt.number) st)
+    → Has z.knows.told (verdict (code z.view.seat z.view.attempt.number) st)
+own_noted x z st e h = subst (λ (p : ℕ). Has z.knows.told (verdict (code p z.view.attempt.number) st)) (sym (ap (λ (v : View). v.seat) e.view))
+    (subst (λ (a : ℕ). Has z.knows.told (verdict (code x.view.seat a) st)) (sym (ap (λ (v : View). v.attempt.number) e.view)) (e.told _ h))
 
 -- a pass knows why its own exchange was decided as a status says, which it found or put
 pub why_ended : (x y : Whole) (places : List Place) (p a : ℕ) (s : Status) → p ≡ x.view.seat → a ≡ x.view.attempt.number → HasPublished x.view places → KnowsOwn x places

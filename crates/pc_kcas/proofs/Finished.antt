@@ -1,5 +1,5 @@
 -- What its own pass holds and meets in the words of an exchange.
-use Rattle.std.proofs.Common.{◌≡◌, ℕ, ◌+◌, ◌-◌, ◌<◌, ◌≤◌, true, List, [], length, get_or, Option, Some, None, IfSome, IfNone, refl, sym, ap, ap₂, ◌∙◌, subst, inl, inr, ⊎_elim}
+use Rattle.std.proofs.Common.{◌≡◌, ℕ, ◌+◌, ◌-◌, ◌<◌, ◌≤◌, true, List, [], length, get_or, Option, Some, None, IfSome, IfNone, refl, sym, ap, ap₂, ◌∙◌, subst, inl, inr, ⊎_elim, arith}
 use mathlib.Core.Option.{some}
 use lib.ListN.{get_elem?}
 use Rattle.pc_model.specs.declared.shape.Shape.{Ghosts}
@@ -25,7 +25,8 @@ use Rattle.pc_kcas.specs.Clearing.{HoldsListed, IsCleanAt}
 use Rattle.pc_kcas.specs.Exchanges.{IsPublished, IsHeldAt, own_exchange}
 use Rattle.pc_kcas.specs.Obstacles.{GoesOn, IsWordOf, HasFollowed, IsObstacle}
 use Rattle.pc_kcas.specs.Stops.{HasMetObstacle, HasMetAt, KnowsStopAt, WereStoppedBy}
-use Rattle.pc_kcas.specs.Verdicts.{KnowsWon, KnowsChanged, KnowsRival, HasEnded, KeepsAll, IsBlocked, IsAtLast, EndedSo, IfWon, IfChanged, IfLocked, IfBlocked, IfNumbers}
+use Rattle.pc_kcas.specs.Takings.{HoldsBelow}
+use Rattle.pc_kcas.specs.Verdicts.{KnowsWon, KnowsLost, KnowsChanged, KnowsRival, HasEnded, KeepsAll, IsBlocked, IsAtLast, EndedSo, IfWon, IfChanged, IfLocked, IfBlocked, IfNumbers}
 use Rattle.pc_kcas.proofs.Blocking.{met_blocked, met_known}
 use Rattle.pc_kcas.proofs.Evidence.{keeps_notes}
 use Rattle.pc_kcas.proofs.Attempts.{knows_place}
@@ -62,9 +63,16 @@ module _ (y : Whole) (a : ℕ) (X : Ref → Ref → Type 0) where
   so_won (Blocked first second) so = tt
   so_won (Numbers n) so = tt
 
+  pub so_lost : (r : Verdict) → EndedSo y a r X → KnowsLost y a r
+  so_lost (Won s) so = tt
+  so_lost (ChangedSo n) so = so.0
+  so_lost (LockedSo n by) so = so.0
+  so_lost (Blocked first second) so = so.0
+  so_lost (Numbers n) so = so.0
+
   pub so_changed : (r : Verdict) → EndedSo y a r X → IfChanged r (KnowsChanged y a)
   so_changed (Won s) so = tt
-  so_changed (ChangedSo n) so = so
+  so_changed (ChangedSo n) so = so.1
   so_changed (LockedSo n by) so = tt
   so_changed (Blocked first second) so = tt
   so_changed (Numbers n) so = tt
@@ -72,7 +80,7 @@ module _ (y : Whole) (a : ℕ) (X : Ref → Ref → Type 0) where
   pub so_locked : (r : Verdict) → EndedSo y a r X → IfLocked r (λ n by. (1 ≤ by) × KnowsRival y a n (by - 1))
   so_locked (Won s) so = tt
   so_locked (ChangedSo n) so = tt
-  so_locked (LockedSo n by) so = so
+  so_locked (LockedSo n by) so = (so.1, so.2)
   so_locked (Blocked first second) so = tt
   so_locked (Numbers n) so = tt
 
@@ -80,7 +88,7 @@ module _ (y : Whole) (a : ℕ) (X : Ref → Ref → Type 0) where
   so_blocked (Won s) Y more so = tt
   so_blocked (ChangedSo n) Y more so = tt
   so_blocked (LockedSo n by) Y more so = tt
-  so_blocked (Blocked first second) Y more so = more first second so
+  so_blocked (Blocked first second) Y more so = more first second so.1
   so_blocked (Numbers n) Y more so = tt
 
   pub so_numbers : (r : Verdict) → EndedSo y a r X → IfNumbers r (IsAtLast y)
@@ -88,7 +96,7 @@ module _ (y : Whole) (a : ℕ) (X : Ref → Ref → Type 0) where
   so_numbers (ChangedSo n) so = tt
   so_numbers (LockedSo n by) so = tt
   so_numbers (Blocked first second) so = tt
-  so_numbers (Numbers n) so = so
+  so_numbers (Numbers n) so = so.1
 
 module _ {H : Type 0} {S : Ghosts H} where
   pub seated_then : (p q r : Pass H S) → IsSeatedAs p q → IsSeatedAs q r → IsSeatedAs p r
@@ -145,6 +153,15 @@ module _ {H : Type 0} {S : Ghosts H} where
   pub all_held : (o q : Pass H S) → ((i : ℕ) → i < length (listed q) → IsHeldAt o q i) → HoldsListed q
   all_held o q each i x at = is_noted (view o) (view q) _ (each i (below_length (listed q) i x at) x at)
 
+  -- and so are those before some index
+  pub held_below : (o q : Pass H S) (m : ℕ) → IsPublished q → m ≤ length (listed q) → ((i : ℕ) → i < m → IsHeldAt o q i) → HoldsBelow (whole q) (own_exchange q) m
+  held_below o q m has few each i lt = let at = element_at (listed q) i (omega arith) in let x = at.0 in (
+    x.node,
+    x.field,
+    (own_entry (whole q) (listed q) has.0 q.one_attempt (view q).attempt.number (sym q.one_attempt.number) i x at.1).place,
+    is_noted (view o) (view q) _ (each i lt x at.1),
+  )
+
   -- what is known of the word that stopped the others
   pub why_stopped : (seats : ℕ) (o q : Pass H S) (stopped : Option Stop) → IfSome stopped (λ stop. HasMetAt seats o q stop.at stop.obstacle) → IfSome stopped (KnowsStopAt q)
   why_stopped seats o q (Some stop) met = λ x at. met_known seats (view o) (whole q) x.node x.field stop.obstacle (met x at)
@@ -152,12 +169,13 @@ module _ {H : Type 0} {S : Ghosts H} where
 
   -- two references stood in the way, where the words were stopped by them
   pub stopped_blocked : (seats : ℕ) (o q : Pass H S) (stopped : Option Stop) → IsPublished q → IfSome stopped (λ stop. stop.at < length (listed q))
-      → IfSome stopped (λ stop. HasMetAt seats o q stop.at stop.obstacle) → (first second : Ref) → WereStoppedBy stopped first second
+      → IfSome stopped (λ stop. HasMetAt seats o q stop.at stop.obstacle) → IfSome stopped (λ stop. HoldsBelow (whole q) (own_exchange q) stop.at)
+      → (first second : Ref) → WereStoppedBy stopped first second
       → IsBlocked seats (view o) (whole q) (own_exchange q) first second
-  stopped_blocked seats o q (Some stop) has lt met first second by = let at = element_at (listed q) stop.at lt in let x = at.0 in
+  stopped_blocked seats o q (Some stop) has lt met before first second by = let at = element_at (listed q) stop.at lt in let x = at.0 in
       met_blocked seats (view o) (whole q) (own_exchange q) x.node x.field stop.obstacle first second (met x at.1)
-      (stop.at, x.old, x.new, own_entry (whole q) (listed q) has.0 q.one_attempt (view q).attempt.number (sym q.one_attempt.number) stop.at x at.1) by
-  stopped_blocked seats o q None has lt met first second by = absurd by
+      (stop.at, x.old, x.new, own_entry (whole q) (listed q) has.0 q.one_attempt (view q).attempt.number (sym q.one_attempt.number) stop.at x at.1) before by
+  stopped_blocked seats o q None has lt met before first second by = absurd by
 
   pub own_same : (p q : Pass H S) → IsSamePass p q → GoesOn (whole p) (whole q) → own_exchange q ≡ own_exchange p
   own_same p q same goes = ap₂ (λ (a b : ℕ). record { kind = Exchange; seat = a; number = b }) same.0.2 (ap (λ (t : OwnAttempt). t.number) goes.attempt.0)

@@ -19,3 +19,4 @@ pub mod Courses
 pub mod Concluded
 pub mod HeldWords
 pub mod HelpEnds
+pub mod Counted

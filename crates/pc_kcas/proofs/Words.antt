@@ -1,42 +1,59 @@
 -- The words that a pass stores in its descriptor, one change after another.
-use Rattle.std.proofs.Common.{◌≡◌, ◌≢◌, ℕ, ◌+◌, ◌*◌, ◌<◌, List, ◌∷◌, length, get_or, refl, sym, ap, ◌∙◌, subst, arith}
+use Rattle.std.proofs.Common.{◌≡◌, ◌≢◌, ℕ, ◌+◌, ◌*◌, ◌<◌, List, length, get_or, sym, ap, ◌∙◌, subst, arith}
 use mathlib.Core.Logic.{dite}
 use mathlib.Core.Option.{some, some-injective}
 use lib.ListN.{get_elem?}
 use native.Mathlib.Decide.{ℕ_discrete}
 use Rattle.std.proofs.lemmas.Bool.Decides.{nat_tests}
 use Rattle.pc_exchange_law.specs.Passes.{PassKnows}
-use Rattle.pc_rule_law.specs.Views.{View, word_in}
+use Rattle.pc_rule_law.specs.Views.{View}
 use Rattle.pc_rule.specs.declared.opening.Place.{Place}
 use Rattle.pc_rule.specs.Listed.{word_number}
 use Rattle.pc_rule.proofs.Starting.{element}
-use Rattle.pc_kcas.specs.Exchanges.{ListsTo, OnlyWrote, OnlyStored, counts_written, change_written, counts_stored, change_stored}
+use Rattle.pc_kcas.specs.Exchanges.{ListsTo, OnlyWrote, OnlyStored, with_word, with_counts, with_change}
+
+-- a word that stands already is as if it had been stored
+same_word : (f : ℕ → ℕ) (place x k : ℕ) → f place ≡ x → f k ≡ with_word f place x k
+same_word f place x k is = dite (ℕ_discrete k place)
+    (λ same. ap f same ∙ is ∙ sym (at_place same))
+    (λ other. sym (elsewhere other))
+  where
+    at_place : k ≡ place → with_word f place x k ≡ x
+    at_place same = grind (arith, nat_tests)
+
+    elsewhere : k ≢ place → with_word f place x k ≡ f k
+    elsewhere other = grind (arith, nat_tests)
+
+pub stands_already : (f : ℕ → ℕ) (place x : ℕ) → f place ≡ x → f ≡ with_word f place x
+stands_already f place x is = λ i k. same_word f place x k is i
 
 -- of three words that were stored each is what it is, and the others are what they were
-three_words : (words : List (ℕ × ℕ)) (a b c x y z k : ℕ) → b ≡ a + 1 → c ≡ a + 2
-    → (k ≡ a → word_in ((c, z) ∷ (b, y) ∷ (a, x) ∷ words) k ≡ x)
-    × (k ≡ b → word_in ((c, z) ∷ (b, y) ∷ (a, x) ∷ words) k ≡ y)
-    × (k ≡ c → word_in ((c, z) ∷ (b, y) ∷ (a, x) ∷ words) k ≡ z)
-    × (k ≢ a → k ≢ b → k ≢ c → word_in ((c, z) ∷ (b, y) ∷ (a, x) ∷ words) k ≡ word_in words k)
-three_words words a b c x y z k eb ec = (
+three_words : (f : ℕ → ℕ) (a b c x y z k : ℕ) → b ≡ a + 1 → c ≡ a + 2
+    → (k ≡ a → with_word (with_word (with_word f a x) b y) c z k ≡ x)
+    × (k ≡ b → with_word (with_word (with_word f a x) b y) c z k ≡ y)
+    × (k ≡ c → with_word (with_word (with_word f a x) b y) c z k ≡ z)
+    × (k ≢ a → k ≢ b → k ≢ c → with_word (with_word (with_word f a x) b y) c z k ≡ f k)
+three_words f a b c x y z k eb ec = (
   (λ e. grind (arith, nat_tests)),
   (λ e. grind (arith, nat_tests)),
   (λ e. grind (arith, nat_tests)),
   (λ na nb nc. grind (arith, nat_tests)),
 )
 
-abbrev with_change : List (ℕ × ℕ) → ℕ → Place → List (ℕ × ℕ)
-with_change words i p = (5 + 3 * i, p.new) ∷ (4 + 3 * i, p.old) ∷ (3 + 3 * i, word_number p) ∷ words
+pub three_written : (f g h k : ℕ → ℕ) (a b c x y z : ℕ) → g ≡ with_word f a x → h ≡ with_word g b y → k ≡ with_word h c z
+    → k ≡ with_word (with_word (with_word f a x) b y) c z
+three_written f g h k a b c x y z first second third =
+    third ∙ ap (λ (w : ℕ → ℕ). with_word w c z) (second ∙ ap (λ (w : ℕ → ℕ). with_word w b y) first)
 
 -- the words of the changes so far, and one more
-module _ (places : List Place) (words : List (ℕ × ℕ)) (i : ℕ) (p : Place) where
-  here : (k : ℕ) → (k ≡ 3 + 3 * i → word_in (with_change words i p) k ≡ word_number p)
-      × (k ≡ 4 + 3 * i → word_in (with_change words i p) k ≡ p.old)
-      × (k ≡ 5 + 3 * i → word_in (with_change words i p) k ≡ p.new)
-      × (k ≢ 3 + 3 * i → k ≢ 4 + 3 * i → k ≢ 5 + 3 * i → word_in (with_change words i p) k ≡ word_in words k)
-  here k = three_words words (3 + 3 * i) (4 + 3 * i) (5 + 3 * i) (word_number p) p.old p.new k (omega arith) (omega arith)
+module _ (places : List Place) (f : ℕ → ℕ) (i : ℕ) (p : Place) where
+  here : (k : ℕ) → (k ≡ 3 + 3 * i → with_change f i p k ≡ word_number p)
+      × (k ≡ 4 + 3 * i → with_change f i p k ≡ p.old)
+      × (k ≡ 5 + 3 * i → with_change f i p k ≡ p.new)
+      × (k ≢ 3 + 3 * i → k ≢ 4 + 3 * i → k ≢ 5 + 3 * i → with_change f i p k ≡ f k)
+  here k = three_words f (3 + 3 * i) (4 + 3 * i) (5 + 3 * i) (word_number p) p.old p.new k (omega arith) (omega arith)
 
-  pub lists_next : ListsTo places (word_in words) i → get_elem? places i ≡ some p → ListsTo places (word_in (with_change words i p)) (i + 1)
+  pub lists_next : ListsTo places f i → get_elem? places i ≡ some p → ListsTo places (with_change f i p) (i + 1)
   unfolding here
   lists_next so at = record {
     mode = (here 0).3 (omega arith) (omega arith) (omega arith) ∙ so.mode;
@@ -55,33 +72,29 @@ module _ (places : List Place) (words : List (ℕ × ℕ)) (i : ℕ) (p : Place)
         ));
   }
 
-pub lists_none : (places : List Place) (words : List (ℕ × ℕ)) → ListsTo places (word_in ((2, 0) ∷ (1, length places) ∷ (0, 0) ∷ words)) 0
-lists_none places words = record {
-  mode = (three_words words 0 1 2 0 (length places) 0 0 (omega arith) (omega arith)).0 (omega arith);
-  changes = (three_words words 0 1 2 0 (length places) 0 1 (omega arith) (omega arith)).1 (omega arith);
-  visits = (three_words words 0 1 2 0 (length places) 0 2 (omega arith) (omega arith)).2 (omega arith);
+none_listed : (places : List Place) (f : ℕ → ℕ) → ListsTo places (with_counts f (length places)) 0
+none_listed places f = record {
+  mode = (three_words f 0 1 2 0 (length places) 0 0 (omega arith) (omega arith)).0 (omega arith);
+  changes = (three_words f 0 1 2 0 (length places) 0 1 (omega arith) (omega arith)).1 (omega arith);
+  visits = (three_words f 0 1 2 0 (length places) 0 2 (omega arith) (omega arith)).2 (omega arith);
   each = λ j q lt at. absurd (omega arith);
 }
 
--- a pass that stored words, and three more, stored words
-pub only_counts : (v w : View) (count : ℕ) → w ≡ counts_written v count → OnlyWrote v w
-only_counts v w count e = subst (OnlyWrote v) (sym e) refl
+pub lists_none : (places : List Place) (f g : ℕ → ℕ) (count : ℕ) → count ≡ length places → g ≡ with_counts f count → ListsTo places g 0
+lists_none places f g count all is =
+    subst (λ (w : ℕ → ℕ). ListsTo places w 0) (sym (is ∙ ap (with_counts f) all)) (none_listed places f)
 
-pub only_next : (v u w : View) (i : ℕ) (p : Place) → OnlyWrote v u → w ≡ change_written u i p → OnlyWrote v w
-only_next v u w i p so e = subst (OnlyWrote v) (sym e)
-    (ap (λ (x : View). record x { attempt = record x.attempt { words = with_change u.attempt.words i p } }) so)
+-- a pass that stored words, and more, stored words
+pub only_then : (v u w : View) → OnlyWrote v u → OnlyWrote u w → OnlyWrote v w
+only_then v u w first second = second ∙ ap (λ (x : View). record x { attempt = record x.attempt { words = w.attempt.words } }) first
 
-pub stored_counts : (k k' : PassKnows) (count : ℕ) → k' ≡ counts_stored k count → OnlyStored k k'
-stored_counts k k' count e = subst (OnlyStored k) (sym e) refl
-
-pub stored_next : (k u k' : PassKnows) (i : ℕ) (p : Place) → OnlyStored k u → k' ≡ change_stored u i p → OnlyStored k k'
-stored_next k u k' i p so e = subst (OnlyStored k) (sym e)
-    (ap (λ (x : PassKnows). record x { own = record x.own { words = with_change u.own.words i p } }) so)
+pub stored_then : (k u k' : PassKnows) → OnlyStored k u → OnlyStored u k' → OnlyStored k k'
+stored_then k u k' first second = second ∙ ap (λ (x : PassKnows). record x { own = record x.own { words = k'.own.words } }) first
 
 -- one change more is stored, as it is read from the list
-pub lists_written : (old now new : List Place) (u w : View) (i : ℕ) (d : Place) → now ≡ old → new ≡ old → i < length now
-    → ListsTo old (word_in u.attempt.words) i → w ≡ change_written u i (get_or now i d) → ListsTo new (word_in w.attempt.words) (i + 1)
-lists_written old now new u w i d is same lt so e =
+pub lists_written : (old now new : List Place) (f g : ℕ → ℕ) (i : ℕ) (d : Place) → now ≡ old → new ≡ old → i < length now
+    → ListsTo old f i → g ≡ with_change f i (get_or now i d) → ListsTo new g (i + 1)
+lists_written old now new f g i d is same lt so e =
     let at : get_elem? old i ≡ some (get_or now i d) = subst (λ (l : List Place). get_elem? l i ≡ some (get_or now i d)) is (element now i d lt) in
-    subst (λ (l : List Place). ListsTo l (word_in w.attempt.words) (i + 1)) (sym same)
-    (subst (λ (x : View). ListsTo old (word_in x.attempt.words) (i + 1)) (sym e) (lists_next old u.attempt.words i (get_or now i d) so at))
+    subst (λ (l : List Place). ListsTo l g (i + 1)) (sym same)
+    (subst (λ (w : ℕ → ℕ). ListsTo old w (i + 1)) (sym e) (lists_next old f i (get_or now i d) so at))

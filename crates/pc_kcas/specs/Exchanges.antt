@@ -1,5 +1,5 @@
 -- What clauses say of an exchange of several words, from its list to its installs.
-use Rattle.std.specs.Prelude.{◌≡◌, ℕ, ◌+◌, ◌*◌, ◌-◌, ◌^◌, ◌<◌, true, false, List, ◌∷◌, length, map}
+use Rattle.std.specs.Prelude.{◌≡◌, ℕ, ◌+◌, ◌*◌, ◌-◌, ◌^◌, ◌<◌, ◌==◌, if◌then◌else◌, true, false, List, ◌∷◌, length, map}
 use Rattle.std.specs.List.{All}
 use Rattle.std.specs.List.Sorted.{IsPermutation}
 use mathlib.Core.Option.{some}
@@ -9,7 +9,6 @@ use Rattle.pc_model.specs.declared.shape.Shape.{Ghosts}
 use Rattle.pc_model.specs.Cells.{IsEven}
 use Rattle.pc_model.specs.Forms.{Form, Fits}
 use Rattle.pc_exchange_law.specs.ExchangeConditions.{KnowsOld}
-use Rattle.pc_exchange_law.specs.Knowing.{after_own_store}
 use Rattle.pc_exchange_law.specs.Passes.{PassKnows}
 use Rattle.pc_exchange_law.specs.Ties.{code, exchange_of}
 use Rattle.pc_exchange_law.specs.Wholes.{Whole}
@@ -17,7 +16,7 @@ use Rattle.pc_protocol.specs.Notes.{published}
 use Rattle.pc_rule_law.specs.Board.{Size}
 use Rattle.pc_rule_law.specs.Openings.{attempt_of}
 use Rattle.pc_rule_law.specs.Past.{Has, Describes}
-use Rattle.pc_rule_law.specs.Plays.{after_write, AddsNotes, IsNotedSince}
+use Rattle.pc_rule_law.specs.Plays.{AddsNotes, IsNotedSince}
 use Rattle.pc_rule_law.specs.Views.{View, clock_at, held, word_in}
 use Rattle.pc_rule.specs.declared.board.Pass.{Pass}
 use Rattle.pc_rule.specs.declared.opening.Place.{Place}
@@ -65,18 +64,15 @@ OnlyWrote v w = w ≡ record v { attempt = record v.attempt { words = w.attempt.
 abbrev pub OnlyStored : PassKnows → PassKnows → Type 0
 OnlyStored k k' = k' ≡ record k { own = record k.own { words = k'.own.words } }
 
--- after stores of the mode and the two counts, and of the three words of one change
-abbrev pub counts_written : View → ℕ → View
-counts_written v count = after_write (after_write (after_write v 0 0) 1 count) 2 0
+-- words with another one at this place; with another mode and other counts; and with the three words of one change
+abbrev pub with_word : (ℕ → ℕ) → ℕ → ℕ → ℕ → ℕ
+with_word words place x k = if k == place then x else words k
 
-abbrev pub change_written : View → ℕ → Place → View
-change_written v i p = after_write (after_write (after_write v (3 + 3 * i) (word_number p)) (4 + 3 * i) p.old) (5 + 3 * i) p.new
+abbrev pub with_counts : (ℕ → ℕ) → ℕ → ℕ → ℕ
+with_counts words count = with_word (with_word (with_word words 0 0) 1 count) 2 0
 
-abbrev pub counts_stored : PassKnows → ℕ → PassKnows
-counts_stored k count = after_own_store (after_own_store (after_own_store k 0 0) 1 count) 2 0
-
-abbrev pub change_stored : PassKnows → ℕ → Place → PassKnows
-change_stored k i p = after_own_store (after_own_store (after_own_store k (3 + 3 * i) (word_number p)) (4 + 3 * i) p.old) (5 + 3 * i) p.new
+abbrev pub with_change : (ℕ → ℕ) → ℕ → Place → ℕ → ℕ
+with_change words i p = with_word (with_word (with_word words (3 + 3 * i) (word_number p)) (4 + 3 * i) p.old) (5 + 3 * i) p.new
 
 -- the pass has one attempt more, which is published, and loaded the clock, and is otherwise as it was
 pub record OnlyPublished (v w : View) : Type 0 where

@@ -10,3 +10,4 @@ pub mod Verdicts
 pub mod Holds
 pub mod Stops
 pub mod Collecting
+pub mod Bounds

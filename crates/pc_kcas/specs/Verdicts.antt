@@ -11,7 +11,7 @@ use Rattle.pc_words.specs.declared.status.Status.{Status}
 use Rattle.pc_rule_law.specs.Past.{Has}
 use Rattle.pc_rule_law.specs.Plays.{AddsNotes, IsNotedSince}
 use Rattle.pc_rule_law.specs.Views.{View}
-use Rattle.pc_protocol.specs.Histories.{committed, aborted, ended}
+use Rattle.pc_protocol.specs.Histories.{Cause, withdrawn, ended, changed, locked, committed, aborted}
 use Rattle.pc_protocol.specs.Notes.{Note, clock_was, outdated, published, rival, verdict}
 use Rattle.pc_exchange_law.specs.Attempts.{AttemptNote}
 use Rattle.pc_exchange_law.specs.Ties.{code, last_stamp}
@@ -25,13 +25,17 @@ use Rattle.pc_kcas.specs.Exchanges.{own_exchange}
 use Rattle.pc_kcas.specs.Helping.{IsStoppedBy}
 use Rattle.pc_kcas.specs.Obstacles.{GoesOn, IsNotOwn, IsWordOf}
 use Rattle.pc_kcas.specs.Settling.{IsSettled}
-use Rattle.pc_kcas.specs.Takings.{IsAtLastInstall}
+use Rattle.pc_kcas.specs.Takings.{IsAtLastInstall, HoldsBelow}
 use Rattle.pc_kcas.specs.declared.verdict.Verdict.{Verdict}
 use Rattle.pc_kcas.specs.declared.verdict.Verdict.TheVariants.{Won, Changed, Locked, Blocked, Numbers as OutOfNumbers}
 
 -- the pass knows that its exchange with this number took effect at this stamp
 abbrev pub KnowsWon : Whole → ℕ → ℕ → Type 0
 KnowsWon y a s = Has y.knows.told (verdict (code y.view.seat a) (committed s))
+
+-- that its exchange with this number was decided as failed, for this cause
+abbrev pub KnowsFailed : Whole → ℕ → Cause → Type 0
+KnowsFailed y a cause = Has y.knows.told (verdict (code y.view.seat a) (aborted cause))
 
 -- that the version of this node is above the one that its exchange covers
 abbrev pub KnowsChanged : Whole → ℕ → ℕ → Type 0
@@ -66,12 +70,14 @@ pub record KeepsAll (x y : Whole) : Type 0 where
 abbrev pub KnewBetween : Whole → Whole → (Whole → Type 0) → Type 0
 KnewBetween x y X = (u : Whole) × GoesOn x u × HasEnded u y × X u
 
--- This reference stood since in a word of the own exchange. Then there stood another one of its kind; or the help of the first one's
--- exchange was stopped by it. Neither is that of an install of the pass, nor, in that word, of the own exchange.
+-- This reference stood since in a word of the own exchange, whose words before that one were each seen to hold its own reference. Then
+-- there stood another one of the first one's kind; or the help of the first one's exchange was stopped by it. Neither is that of an
+-- install of the pass, nor, in that word, of the own exchange.
 pub record IsBlocked (links : ℕ) (v : View) (y : Whole) (own first second : Ref) : Type 0 where
   pub node : ℕ
   pub field : Field
   pub word : IsWordOf y own node field
+  pub before : HoldsBelow y own word.0
   pub stood : IsNotedSince v y.view (met_note first.kind first.seat first.number node field)
   pub not_its_own : first ≢ own
   pub not_own : IsNotOwn y.view first × IsNotOwn y.view second
@@ -97,13 +103,23 @@ answer_by Withdrawn c = OutOfNumbers (record { counter = Stamp; at = c })
 answer_by (ChangedNode n) c = Changed n
 answer_by (LockedNode n q) c = Locked n (q + 1)
 
+-- the pass knows that its exchange with this number failed as the answer says, where that isn't that it took effect: where the answer
+-- is that references stood in the way the pass withdrew it, and where it is that a counter stands at its last value the pass did, or
+-- another since the clock has come to its end
+abbrev pub KnowsLost : Whole → ℕ → Verdict → Type 0
+KnowsLost y a (Won s) = Unit {0}
+KnowsLost y a (Changed n) = KnowsFailed y a (changed n)
+KnowsLost y a (Locked n by) = KnowsFailed y a (locked n (by - 1))
+KnowsLost y a (Blocked first second) = KnowsFailed y a withdrawn
+KnowsLost y a (OutOfNumbers n) = KnowsFailed y a withdrawn ⊎ KnowsFailed y a ended
+
 -- the pass knows that its exchange with this number ended so; where two references stood in the way, X holds of them
 abbrev pub EndedSo : Whole → ℕ → Verdict → (Ref → Ref → Type 0) → Type 0
 EndedSo y a (Won s) X = KnowsWon y a s
-EndedSo y a (Changed n) X = KnowsChanged y a n
-EndedSo y a (Locked n by) X = (1 ≤ by) × KnowsRival y a n (by - 1)
-EndedSo y a (Blocked first second) X = X first second
-EndedSo y a (OutOfNumbers n) X = IsAtLast y n
+EndedSo y a (Changed n) X = KnowsLost y a (Changed n) × KnowsChanged y a n
+EndedSo y a (Locked n by) X = KnowsLost y a (Locked n by) × (1 ≤ by) × KnowsRival y a n (by - 1)
+EndedSo y a (Blocked first second) X = KnowsLost y a (Blocked first second) × X first second
+EndedSo y a (OutOfNumbers n) X = KnowsLost y a (OutOfNumbers n) × IsAtLast y n
 
 -- it may answer so where it withdraws its exchange: two references stood in the way, or the install number stands at its last value
 abbrev pub IsReason : Whole → Verdict → Type 0

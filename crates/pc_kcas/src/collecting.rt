@@ -1,8 +1,9 @@
 //! The words of another's exchange, each read and then held.
-ghost use Rattle.std.specs.Prelude.{◌≡◌, ◌+◌, ◌-◌, ◌<◌, ◌≤◌, IfSome, IfNone};
+ghost use Rattle.std.specs.Prelude.{◌≡◌, ◌+◌, ◌-◌, ◌*◌, ◌<◌, ◌≤◌, IfSome, IfNone};
 ghost use Rattle.pc_rule_law.specs.Conditions.{IsFree};
 ghost use Rattle.pc_rule.specs.declared.refs.RefKind.TheVariants.{Exchange};
 ghost use Rattle.pc_rule.specs.Passes.{whole, view, board_size, IsPassOf, IsSamePass};
+ghost use Rattle.pc_kcas.specs.Bounds.{HasInstalled};
 ghost use Rattle.pc_kcas.specs.Collecting.{IsHaltedBy};
 ghost use Rattle.pc_kcas.specs.Concluding.{TellsCourse};
 ghost use Rattle.pc_kcas.specs.Holds.{halt_at};
@@ -74,6 +75,7 @@ pub(crate) fn collect_word<H: Shape>(
     ensures free { IsFree (view pass.new) }
     ensures links { result.links ≤ links }
     ensures followed { HasFollowed (links - result.links) (view pass.old) (whole pass.new) }
+    ensures bounded { HasInstalled (board_size board.now).slots 3 (links - result.links) (view pass.old) (view pass.new) }
     ensures holds { IfNone result.halt (HoldsAt (whole pass.new) op i) }
     ensures halted { IfSome result.halt (IsHaltedBy (whole pass.old) (whole pass.new) op result.links) }
 {
@@ -112,6 +114,7 @@ pub(crate) fn collect<H: Shape>(
     ensures free { IsFree (view pass.new) }
     ensures links { result.links ≤ links }
     ensures followed { HasFollowed (links - result.links) (view pass.old) (whole pass.new) }
+    ensures bounded { HasInstalled (board_size board.now).slots (3 * count) (links - result.links) (view pass.old) (view pass.new) }
     ensures holds { IfNone result.halt (HoldsBelow (whole pass.new) op count) }
     ensures halted { IfSome result.halt (IsHaltedBy (whole pass.old) (whole pass.new) op result.links) }
 {

@@ -111,6 +111,7 @@ pub(crate) fn conclude_helped<H: Shape>(
     ensures pass { IsSamePass pass.old pass.new }
     ensures goes_on { GoesOn (whole pass.old) (whole pass.new) }
     ensures free { IsFree (view pass.new) }
+    ensures no_install { (view pass.new).install.number ≡ (view pass.old).install.number }
     ensures ends { IsEnd result }
     ensures come { HasConcluded (whole pass.old) (whole pass.new) op status result }
 {

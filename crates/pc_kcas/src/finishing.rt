@@ -2,11 +2,13 @@
 ghost use Rattle.std.specs.Prelude.{◌≡◌, ◌<◌, ◌≤◌, ◌-◌, ◌+◌, ℕ, [], false, length, IfSome, IfNone};
 ghost use Rattle.pc_rule_law.specs.Conditions.{CanWrite, IsFree};
 ghost use Rattle.pc_rule.specs.Passes.{whole, view, listed, board_size, IsPassOf, IsSeatedAs, IsSamePass};
+ghost use Rattle.pc_kcas.specs.Bounds.{most_in_help, most_in_end};
 ghost use Rattle.pc_kcas.specs.Clearing.{HoldsListed, LeavesClean};
-ghost use Rattle.pc_kcas.specs.Exchanges.{IsPublished, IsHeldAt};
+ghost use Rattle.pc_kcas.specs.Exchanges.{IsPublished, IsHeldAt, own_exchange};
 ghost use Rattle.pc_kcas.specs.Obstacles.{GoesOn};
 ghost use Rattle.pc_kcas.specs.Stops.{HasMetAt};
-ghost use Rattle.pc_kcas.specs.Verdicts.{KeepsAll, KnowsWon, KnowsChanged, KnowsRival, WasBlocked, IsAtLast, IfWon, IfChanged, IfLocked, IfBlocked, IfNumbers};
+ghost use Rattle.pc_kcas.specs.Takings.{HoldsBelow};
+ghost use Rattle.pc_kcas.specs.Verdicts.{KeepsAll, KnowsWon, KnowsLost, KnowsChanged, KnowsRival, WasBlocked, IsAtLast, IfWon, IfChanged, IfLocked, IfBlocked, IfNumbers};
 
 use crate::answering::{Stop, end_at};
 use crate::hold::hold_word;
@@ -27,6 +29,7 @@ fn hold_at<H: Shape>(board: &Board<H>, pass: &mut Pass<H>, i: u32) -> Option<Obs
     ensures free { IsFree (view pass.new) }
     ensures published { IsPublished pass.new }
     ensures held { IfNone result (IsHeldAt pass.old pass.new i) }
+    ensures bounded { (view pass.new).install.number ≤ (view pass.old).install.number + (3 + most_in_help (board_size board.now)) }
     ensures met { IfSome result (HasMetAt (board_size board.now).seats pass.old pass.new i) }
 {
     let op = own_ref(board, pass);
@@ -47,6 +50,8 @@ fn hold_listed<H: Shape>(board: &Board<H>, pass: &mut Pass<H>) -> Option<Stop>
     ensures published { IsPublished pass.new }
     ensures held { IfNone result (HoldsListed pass.new) }
     ensures index { IfSome result (λ stop. stop.at < length (listed pass.new)) }
+    ensures bounded { (view pass.new).install.number ≤ (view pass.old).install.number + most_in_end (board_size board.now) (length (listed pass.old)) }
+    ensures before { IfSome result (λ stop. HoldsBelow (whole pass.new) (own_exchange pass.new) stop.at) }
     ensures met { IfSome result (λ stop. HasMetAt (board_size board.now).seats pass.old pass.new stop.at stop.obstacle) }
 {
     let count = pass.listed().len() as u32;
@@ -80,10 +85,14 @@ pub fn finish<H: Shape>(board: &Board<H>, pass: &mut Pass<H>) -> Verdict
 
     // How it ended.
     ensures won { IfWon result (KnowsWon (whole pass.new) (view pass.new).attempt.number) }
+    ensures lost { KnowsLost (whole pass.new) (view pass.new).attempt.number result }
     ensures changed { IfChanged result (KnowsChanged (whole pass.new) (view pass.new).attempt.number) }
     ensures locked { IfLocked result (λ n by. (1 ≤ by) × KnowsRival (whole pass.new) (view pass.new).attempt.number n (by - 1)) }
     ensures blocked { IfBlocked result (WasBlocked (board_size board.now).seats pass.old pass.new) }
     ensures numbers { IfNumbers result (IsAtLast (whole pass.new)) }
+
+    // The most installs that it makes.
+    ensures bounded { (view pass.new).install.number ≤ (view pass.old).install.number + most_in_end (board_size board.now) (length (listed pass.old)) }
 {
     let stopped = hold_listed(board, pass);
     let verdict = end_at(board, pass, stopped);

@@ -7,6 +7,7 @@ ghost use Rattle.pc_exchange_law.specs.Wholes.{Whole};
 ghost use Rattle.pc_rule.specs.declared.refs.RefKind.TheVariants.{Exchange};
 ghost use Rattle.pc_rule.specs.Passes.{whole, view, board_size, IsPassOf, IsSamePass};
 ghost use Rattle.pc_dcss.specs.Installs.{IsDecided};
+ghost use Rattle.pc_kcas.specs.Bounds.{most_in_one, most_in_help, HasInstalled};
 ghost use Rattle.pc_kcas.specs.Collecting.{HasComeBy, IsHaltedAt, IsHaltedBy, IsStuckWith};
 ghost use Rattle.pc_kcas.specs.Helping.{HasCome, IsOver, IsGoneBy, IsStoppedBy, OnDone, OnGone, IfStopped, IfNumbers};
 ghost use Rattle.pc_kcas.specs.Obstacles.{GoesOn, HasFollowed, IsStuck, IsApartFrom};
@@ -59,6 +60,7 @@ fn end_decided<H: Shape>(board: &Board<H>, pass: &mut Pass<H>, op: Ref, count: u
     ensures pass { IsSamePass pass.old pass.new }
     ensures goes_on { GoesOn (whole pass.old) (whole pass.new) }
     ensures free { IsFree (view pass.new) }
+    ensures no_install { (view pass.new).install.number ≡ (view pass.old).install.number }
     ensures come { HasComeBy (whole pass.old) (whole pass.new) op (λ x left. Unit {0}) result }
 {
     let status = load_status(board, pass, op);
@@ -82,6 +84,7 @@ fn end_stuck<H: Shape>(
     ensures pass { IsSamePass pass.old pass.new }
     ensures goes_on { GoesOn (whole pass.old) (whole pass.new) }
     ensures free { IsFree (view pass.new) }
+    ensures no_install { (view pass.new).install.number ≡ (view pass.old).install.number }
     ensures come { HasComeBy (whole pass.old) (whole pass.new) op (λ x left. IsStuck x.view (whole pass.old) left stuck × IsApartFrom op stuck) result }
 {
     let status = load_status(board, pass, op);
@@ -111,6 +114,7 @@ fn end_at<H: Shape>(
     ensures pass { IsSamePass pass.old pass.new }
     ensures goes_on { GoesOn (whole pass.old) (whole pass.new) }
     ensures free { IsFree (view pass.new) }
+    ensures no_install { (view pass.new).install.number ≡ (view pass.old).install.number }
     ensures come { HasComeBy (whole pass.old) (whole pass.new) op (λ x left. IsHaltedAt x (whole pass.old) op node left obstacle) result }
 {
     match obstacle {
@@ -149,6 +153,7 @@ fn end_collected<H: Shape>(
     ensures pass { IsSamePass pass.old pass.new }
     ensures goes_on { GoesOn (whole pass.old) (whole pass.new) }
     ensures free { IsFree (view pass.new) }
+    ensures no_install { (view pass.new).install.number ≡ (view pass.old).install.number }
     ensures come { HasComeBy (whole pass.old) (whole pass.new) op (λ x left. IfSome halt (IsHaltedBy x (whole pass.old) op left)) result }
 {
     match halt {
@@ -180,6 +185,7 @@ pub(crate) fn help_linked<H: Shape>(
     ensures free { IsFree (view pass.new) }
     ensures links { result.links ≤ links }
     ensures followed { HasFollowed (links - result.links) (view pass.old) (whole pass.new) }
+    ensures bounded { HasInstalled (board_size board.now).slots (most_in_one (board_size board.now).slots) (links - result.links) (view pass.old) (view pass.new) }
     ensures come { HasCome (whole pass.old) (whole pass.new) op result.links result.progress }
 {
     let count = match read_count(board, pass, op) {
@@ -220,6 +226,9 @@ pub fn help<H: Shape>(board: &Board<H>, pass: &mut Pass<H>, op: Ref) -> Helped
     ensures gone { OnGone result (IsGoneBy (whole pass.old) (whole pass.new) op) }
     ensures stopped { IfStopped result (IsStoppedBy (board_size board.now).seats (view pass.old) (whole pass.new) op) }
     ensures numbers { IfNumbers result (IsAtLastInstall (view pass.new)) }
+
+    // The most installs that it makes.
+    ensures bounded { (view pass.new).install.number ≤ (view pass.old).install.number + most_in_help (board_size board.now) }
 {
     let help = help_linked(board, pass, op, board.passes());
     match help.progress {

@@ -3,10 +3,11 @@ ghost use Rattle.std.specs.Prelude.{◌≡◌, ◌≤◌, ◌-◌, IfSome, IfNon
 ghost use Rattle.pc_rule_law.specs.Conditions.{IsFree};
 ghost use Rattle.pc_rule_law.specs.Plays.{IsNotedSince};
 ghost use Rattle.pc_rule_law.specs.Views.{held};
-ghost use Rattle.pc_rule.specs.Passes.{whole, view, IsPassOf, IsSamePass};
+ghost use Rattle.pc_rule.specs.Passes.{whole, view, board_size, IsPassOf, IsSamePass};
 ghost use Rattle.pc_rule.specs.declared.refs.RefKind.TheVariants.{Install, Exchange};
 ghost use Rattle.pc_dcss.specs.declared.installed.Installed.TheVariants.{Met};
 ghost use Rattle.pc_dcss.specs.Installs.{KnowsPlace, IfMet};
+ghost use Rattle.pc_kcas.specs.Bounds.{HasInstalled};
 ghost use Rattle.pc_kcas.specs.Holds.{obstacle_by, hindrance_of};
 ghost use Rattle.pc_kcas.specs.Obstacles.{GoesOn, IsWordOf, HasFollowed, IsObstacle};
 
@@ -102,6 +103,7 @@ pub(crate) fn hold_word<H: Shape>(
     ensures free { IsFree (view pass.new) }
     ensures links { result.links ≤ links }
     ensures followed { HasFollowed (links - result.links) (view pass.old) (whole pass.new) }
+    ensures bounded { HasInstalled (board_size board.now).slots 3 (links - result.links) (view pass.old) (view pass.new) }
     ensures held { IfNone result.obstacle (IsNotedSince (view pass.old) (view pass.new) (held op.seat op.number place.node place.field)) }
     ensures obstacle { IfSome result.obstacle (IsObstacle (whole pass.old) (whole pass.new) op place.node place.field links result.links) }
 {

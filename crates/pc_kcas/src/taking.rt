@@ -1,5 +1,5 @@
 //! One word of an exchange, by whoever takes it: its own pass, or one that helps it.
-ghost use Rattle.std.specs.Prelude.{◌≡◌, IfSome, IfNone};
+ghost use Rattle.std.specs.Prelude.{◌≡◌, ◌+◌, ◌≤◌, IfSome, IfNone};
 ghost use Rattle.pc_rule_law.specs.Conditions.{IsFree};
 ghost use Rattle.pc_rule_law.specs.Past.{Has};
 ghost use Rattle.pc_rule_law.specs.Plays.{IsNotedSince};
@@ -8,6 +8,7 @@ ghost use Rattle.pc_rule.specs.declared.refs.RefKind.TheVariants.{Install, Excha
 ghost use Rattle.pc_rule.specs.Passes.{whole, view, knows, IsPassOf, IsSamePass};
 ghost use Rattle.pc_dcss.specs.declared.installed.Installed.TheVariants.{Met};
 ghost use Rattle.pc_dcss.specs.Installs.{HasMet, KnowsPlace, IsDecidedSince, KnowsOutdated, HasCome, IsNews, OnHeld, OnDecided, IfDiffers, IfMet, IfNumbers};
+ghost use Rattle.pc_kcas.specs.Bounds.{completions};
 ghost use Rattle.pc_kcas.specs.Obstacles.{GoesOn};
 ghost use Rattle.pc_kcas.specs.Takings.{IsMetSince, IsDifferentSince, IsAtLastInstall, IsGoneInstall, IsCompletedSince, AreMetInTurn, IsAnother};
 
@@ -69,6 +70,7 @@ fn try_again<H: Shape>(
     ensures pass { IsSamePass pass.old pass.new }
     ensures goes_on { GoesOn (whole pass.old) (whole pass.new) }
     ensures free { IsFree (view pass.new) }
+    ensures most { (view pass.new).install.number ≤ (view pass.old).install.number + 1 }
     ensures gone { Has (view pass.new).notes (removed first.seat first.number) }
     ensures held { OnHeld result (IsNotedSince (view pass.old) (view pass.new) (held op.seat op.number place.node place.field)) }
     ensures decided { OnDecided result (IsDecidedSince (view pass.old) (view pass.new) op.seat op.number) }
@@ -102,6 +104,7 @@ pub(crate) fn take_word<H: Shape>(
     ensures pass { IsSamePass pass.old pass.new }
     ensures goes_on { GoesOn (whole pass.old) (whole pass.new) }
     ensures free { IsFree (view pass.new) }
+    ensures most { (view pass.new).install.number + completions completed ≤ (view pass.old).install.number + 1 + completions result.completed }
     ensures held { OnHeld result.answer (IsNotedSince (view pass.old) (view pass.new) (held op.seat op.number place.node place.field)) }
     ensures decided { OnDecided result.answer (IsDecidedSince (view pass.old) (view pass.new) op.seat op.number) }
     ensures differs { IfDiffers result.answer (IsDifferentSince (view pass.old) (view pass.new) place) }

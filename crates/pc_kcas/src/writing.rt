@@ -1,25 +1,42 @@
-//! The words of an exchange, stored in the own descriptor. Every word is stored, also one that has its value already: a pass
-//! doesn't keep what stands in its descriptor.
+//! The words of an exchange, stored in the own descriptor. A word that has its value already isn't stored.
 ghost use Rattle.std.specs.Prelude.{◌≡◌, ◌<◌, ◌≤◌, length};
 ghost use Rattle.pc_rule_law.specs.Conditions.{CanWrite};
 ghost use Rattle.pc_rule_law.specs.Views.{word_in};
 ghost use Rattle.pc_rule.specs.Passes.{view, knows, listed, IsPassOf, IsSamePass};
-ghost use Rattle.pc_kcas.specs.Exchanges.{ListsTo, OnlyWrote, OnlyStored, counts_written, change_written, counts_stored, change_stored};
+ghost use Rattle.pc_rule.specs.Stored.{kept_words};
+ghost use Rattle.pc_kcas.specs.Exchanges.{ListsTo, OnlyWrote, OnlyStored, with_word, with_counts, with_change};
 
 use pc_model::Shape;
 use pc_rule::{Board, Pass, Place, step_10};
+
+// A word of the own descriptor: it is stored, unless it stands there already.
+fn write_word<H: Shape>(board: &Board<H>, pass: &mut Pass<H>, place: u32, word: u64)
+    requires pass { IsPassOf board.now pass.old }
+    requires may { CanWrite (view pass.old) }
+    requires place { place < kept_words }
+    ensures pass { IsSamePass pass.old pass.new }
+    ensures only { OnlyWrote (view pass.old) (view pass.new) }
+    ensures beside { OnlyStored (knows pass.old) (knows pass.new) }
+    ensures words { word_in (view pass.new).attempt.words ≡ with_word (word_in (view pass.old).attempt.words) place word }
+{
+    if pass.attempt_word(place) == word {
+        return;
+    }
+    step_10(board, pass, place, word);
+}
 
 // The mode, and the numbers of changes and of visits.
 fn write_counts<H: Shape>(board: &Board<H>, pass: &mut Pass<H>, count: u32)
     requires pass { IsPassOf board.now pass.old }
     requires may { CanWrite (view pass.old) }
     ensures pass { IsSamePass pass.old pass.new }
-    ensures told { view pass.new ≡ counts_written (view pass.old) count }
-    ensures learnt { knows pass.new ≡ counts_stored (knows pass.old) count }
+    ensures only { OnlyWrote (view pass.old) (view pass.new) }
+    ensures beside { OnlyStored (knows pass.old) (knows pass.new) }
+    ensures words { word_in (view pass.new).attempt.words ≡ with_counts (word_in (view pass.old).attempt.words) count }
 {
-    step_10(board, pass, 0, 0);
-    step_10(board, pass, 1, u64::from(count));
-    step_10(board, pass, 2, 0);
+    write_word(board, pass, 0, 0);
+    write_word(board, pass, 1, u64::from(count));
+    write_word(board, pass, 2, 0);
 }
 
 // The three words of one change.
@@ -28,12 +45,13 @@ fn write_change<H: Shape>(board: &Board<H>, pass: &mut Pass<H>, i: u32, place: P
     requires may { CanWrite (view pass.old) }
     requires few { i < 24 }
     ensures pass { IsSamePass pass.old pass.new }
-    ensures told { view pass.new ≡ change_written (view pass.old) i place }
-    ensures learnt { knows pass.new ≡ change_stored (knows pass.old) i place }
+    ensures only { OnlyWrote (view pass.old) (view pass.new) }
+    ensures beside { OnlyStored (knows pass.old) (knows pass.new) }
+    ensures words { word_in (view pass.new).attempt.words ≡ with_change (word_in (view pass.old).attempt.words) i place }
 {
-    step_10(board, pass, 3 + 3 * i, place.number());
-    step_10(board, pass, 4 + 3 * i, place.old);
-    step_10(board, pass, 5 + 3 * i, place.new);
+    write_word(board, pass, 3 + 3 * i, place.number());
+    write_word(board, pass, 4 + 3 * i, place.old);
+    write_word(board, pass, 5 + 3 * i, place.new);
 }
 
 /// Stores the words of all that is listed.

@@ -27,9 +27,9 @@ swapped_own x n f old new r y s = dite (ℕ_discrete r old)
     (λ e. let h = s.hit e in h.2.learns.own ∙ h.1.learns.own)
     (λ ne. (s.miss ne).learns.own)
 
--- the number of the own install, the own attempt and the path are as they were
+-- the own install, the own attempt and the path are as they were
 pub record KeepsOwn (x y : Whole) : Type 0 where
-  pub install : y.view.install.number ≡ x.view.install.number
+  pub install : y.view.install ≡ x.view.install
   pub attempt : y.view.attempt ≡ x.view.attempt
   pub path : y.path ≡ x.path
   pub agree : AgreeOnAttempt x → AgreeOnAttempt y
@@ -59,7 +59,7 @@ pub tried_keeps : (x : Whole) (p old r : ℕ) (After : Whole → Type 0) (y : Wh
 tried_keeps x p old r After y s hit = dite (ℕ_discrete r old)
     (λ e. hit (s.hit e))
     (λ ne. let m = s.miss ne in record {
-      install = ap (λ (u : View). u.install.number) m.1.later.same;
+      install = ap (λ (u : View). u.install) m.1.later.same;
       attempt = ap (λ (u : View). u.attempt) m.1.later.same;
       path = m.5;
       agree = agree_still x y (ap (λ (u : View). u.attempt) m.1.later.same) m.2.learns.own;

@@ -1,6 +1,6 @@
 -- What the words of a closed board say: by what stands when it closes, and later by what its type keeps. The type's fact is
 -- truncated, so each of these is a proposition.
-use Rattle.std.proofs.Common.{◌≡◌, ◌≢◌, ℕ, zero, suc, List, [], ◌∷◌, sym, ap, ◌∙◌, subst, slice_index}
+use Rattle.std.proofs.Common.{◌≡◌, ◌≢◌, ◌≤◌, ℕ, zero, suc, List, [], ◌∷◌, sym, ap, ◌∙◌, subst, slice_index}
 use mathlib.Core.Option.{some, some-injective, some-ne-none}
 use lib.ListN.{get_elem?}
 use Rattle.std.proofs.Math.Logic.{∥∥₁_elim}
@@ -12,7 +12,7 @@ use Rattle.pc_model.specs.Forms.{Form, IsSound}
 use Rattle.pc_model.specs.Exchanges.{Exchange as Exchanged}
 use Rattle.pc_history.specs.Footprints.{IsAmong}
 use Rattle.pc_history.specs.WorldRuns.{cells_after}
-use Rattle.pc_protocol.specs.Histories.{committed}
+use Rattle.pc_protocol.specs.Histories.{Stage as Course, committed, Cause, aborted}
 use Rattle.pc_protocol.specs.Notes.{Note, published, verdict, in_run, IsTrueNote}
 use Rattle.pc_model.specs.Linked.{opening_cells}
 use Rattle.pc_words.specs.declared.word.WordKind.{WordKind}
@@ -24,7 +24,8 @@ use Rattle.pc_words.specs.Words.{kind, IsWord}
 use Rattle.pc_words.specs.Statuses.{unpacked, StageInRange, StatusInRange, IsStatus}
 use Rattle.pc_words.proofs.Statuses.{packed_unpacked, unpacked_in_range}
 use Rattle.pc_exchange_law.specs.Passes.{PassKnows}
-use Rattle.pc_exchange_law.specs.TieLaws.{run_up_to}
+use Rattle.pc_protocol.proofs.Stages.{same_stamp}
+use Rattle.pc_exchange_law.specs.TieLaws.{run_up_to, maker_of}
 use Rattle.pc_exchange_law.specs.Ties.{code}
 use Rattle.pc_exchange_law.specs.WholeSeats.{IsWholeClosed}
 use Rattle.pc_rule_law.specs.Past.{Has}
@@ -83,6 +84,9 @@ module _ {H : Type 0} {S : Ghosts H} (c : Closed H S) (n : ℕ) (f : Field) (nod
     no_other = λ y so. ∥∥₁_elim c.closed (hlevel props) (λ k. let left = left_has (IsSound S.form) (closed_size c) (words_left c) k.1.closed n f node in left.no_other y so ∙ sym (left.no_other x is));
   }
 
+never_both : (s : ℕ) (cause : Cause) → committed s ≡ aborted cause → ⊥
+never_both s cause e = cc
+
 -- the words that a board leaves say the cells that its run leaves
 pub run_left : {H : Type 0} {S : Ghosts H} (c : Closed H S) (b : Board H) (form : Form) (k : PassKnows) (words : List ℕ) → words_left c ≡ words
     → closed_size c ≡ board_size b → IsWholeClosed form (board_size b) k words
@@ -96,10 +100,18 @@ run_left c b form k words left sized w passes told = record {
       (subst (λ (z : Size). (n : ℕ) (f : Field) → IsNode z.slots n → HasPlainValue (board_in z words) n f (cells_after w.history.opening (run_up_to w.history) n f)) (sym sized)
       (λ n f node. subst (λ (x : ℕ). HasPlainValue (board_in (board_size b) words) n f x) (sym (w.leaves n f))
       (left_has (IsSound form) (board_size b) words w.closed n f node)));
+  maker = λ s. maker_of (w.history.drawn_for s);
+  once = λ x y i x_in y_in of_x of_y. same_stamp x.stamp y.stamp (sym (w.run.made x i x_in of_x) ∙ w.run.made y i y_in of_y);
+  unmade = w.run.unmade;
   won = λ p a s before e few is done. let true_of : (x : Note) → Has (told_by passes) x → IsTrueNote w.history x = λ x has. w.told x (subst (λ (l : List Note). Has l x) told has) in
       let known = true_of (published (code p a) e before) is in
-      subst (λ (y : Exchanged). IsAmong (record { stamp = s; what = y }) (run_up_to w.history)) (sym (w.exchanges p a few known.0) ∙ known.1)
-      (w.run.committed_stands p a s few (true_of (verdict (code p a) (committed s)) done).0);
+      let won : w.history.stage (code p a) ≡ committed s = (true_of (verdict (code p a) (committed s)) done).0 in (
+        subst (λ (y : Exchanged). IsAmong (record { stamp = s; what = y }) (run_up_to w.history)) (sym (w.exchanges p a few known.0) ∙ known.1)
+            (w.run.committed_stands p a s few won),
+        w.run.maker (code p a) s won,
+        subst (λ (i : ℕ). i ≤ s) known.2 (w.run.since (code p a) s won),
+      );
+  lost = λ x p a cause is among made. never_both x.stamp cause (sym (w.run.made x (code p a) among made) ∙ (w.told (verdict (code p a) (aborted cause)) (subst (λ (l : List Note). Has l (verdict (code p a) (aborted cause))) told is)).0);
   read = λ s e has. w.run.item_stands s e (w.told (in_run s e) (subst (λ (l : List Note). Has l (in_run s e)) told has));
 }
 

@@ -6,12 +6,12 @@ pub mod Filling
 pub mod Left
 pub mod Listing
 pub mod Noted
-pub mod Numbers
 pub mod Opened
 pub mod Remaining
 pub mod Rooms
 pub mod Sharing
 pub mod Starting
+pub mod OwnWords
 pub mod Telling
 pub mod Walking
 pub mod WordsAtOpening

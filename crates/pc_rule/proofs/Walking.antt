@@ -1,13 +1,15 @@
 -- What a pass holds of its path is so after each kind of step, and where the pass has just been made.
-use Rattle.std.proofs.Common.{◌≡◌, ◌≢◌, ℕ, zero, suc, ◌+◌, ◌==◌, ◌<◌, ◌≤◌, inl, inr, ⊎_elim, if◌then◌else◌, Bool, true, false, List, [], ◌∷◌, ◌++◌, length, get_or, map, Some, None, refl, sym, ap, ◌∙◌, subst, append-nil, arith}
+use Rattle.std.proofs.Common.{◌≡◌, ◌≢◌, ℕ, zero, suc, ◌+◌, ◌%◌, ◌==◌, ◌<◌, ◌≤◌, nat_lt, inl, inr, ⊎_elim, if◌then◌else◌, Bool, true, false, List, [], ◌∷◌, ◌++◌, length, get_or, map, Some, None, refl, sym, ap, ◌∙◌, subst, append-nil, arith}
 use Rattle.std.proofs.Math.ListN.{length-append}
+use Rattle.std.proofs.lemmas.List.Elements.{All-nil, All-push}
 use Rattle.std.proofs.lemmas.List.Quantifiers.{all_pairs_push}
+use Rattle.std.specs.List.{All}
 use Rattle.std.proofs.lemmas.Bool.{cases_lt}
 use Rattle.std.proofs.lemmas.Bool.Decides.{nat_tests}
 use Rattle.std.proofs.lemmas.List.{map-append}
 use Rattle.pc_model.specs.declared.cell.Field.{Field}
 use Rattle.pc_model.specs.declared.cell.Field.TheVariants.{Version}
-use Rattle.pc_model.specs.Cells.{field_number}
+use Rattle.pc_model.specs.Cells.{field_number, IsNode}
 use Rattle.pc_model.specs.Exchanges.{Visited}
 use Rattle.pc_words.specs.declared.word.WordKind.{WordKind}
 use Rattle.pc_words.specs.declared.word.WordKind.TheVariants.{Plain, Install, Exchange}
@@ -15,20 +17,21 @@ use Rattle.pc_words.specs.Words.{kind}
 use Rattle.pc_history.specs.Footprints.{IsAmong}
 use Rattle.pc_rule_law.specs.Board.{Size}
 use Rattle.pc_exchange_law.specs.Passes.{PassKnows}
-use Rattle.pc_exchange_law.specs.Paths.{Path, dropped, is_visitable, more_visits, with_visit, more_reads, counts_as_read, with_read}
+use Rattle.pc_exchange_law.specs.Paths.{Path, dropped, last_version, is_visitable, more_visits, with_visit, more_reads, counts_as_read, with_read}
 use Rattle.pc_exchange_law.specs.Paths.{with_stamp, with_left, without_stamp, MayCheck}
 use Rattle.pc_exchange_law.specs.Wholes.{Whole}
 use Rattle.pc_exchange_law.specs.Ties.{last_stamp}
 use Rattle.pc_exchange_law.specs.WholePlays.{CellSeen, ReadDrawn, PathChecked}
 use Rattle.pc_exchange_law.proofs.WholeReads.{is_plain_or_not}
 use Rattle.pc_rule.specs.declared.visit.Visit.{Visit}
-use Rattle.pc_rule.specs.Walking.{visited_of, path_with, visits_in, VersionsRise, HoldsPath}
+use Rattle.pc_rule.specs.Walking.{visited_of, path_with, visits_in, FitsVisit, VersionsRise, HoldsPath}
 
 pub path_still : (x y : Whole) (begun : Bool) (visits : List Visit) (room : ℕ) → y.path ≡ x.path → y.view.size ≡ x.view.size
     → HoldsPath x begun visits room → HoldsPath y begun visits room
 path_still x y begun visits room same sized was = record {
   begun = ap (λ (p : Path). p.begun) same ∙ was.begun;
   visits = ap (λ (p : Path). (path_with visits p).visits) same ∙ was.visits;
+  fit = subst (λ (z : Size). All (FitsVisit z.slots) visits) (sym sized) was.fit;
   rising = was.rising;
   few = subst (λ (z : Size). length visits ≤ z.slots + 1) (sym sized) was.few;
   ample = subst (λ (z : Size). z.slots + 1 ≤ room) (sym sized) was.ample;
@@ -42,6 +45,7 @@ pub new_holds : (x : Whole) (visits : List Visit) (room : ℕ) → visits ≡ []
 new_holds x visits room none begun ample = record {
   begun = begun;
   visits = subst (λ (l : List Visit). (path_with l x.path).visits ≡ map visited_of l) (sym none) refl;
+  fit = subst (All (FitsVisit x.view.size.slots)) (sym none) (All-nil (FitsVisit x.view.size.slots));
   rising = none_rise visits none;
   few = (let n : length visits ≡ 0 = ap length none in omega arith);
   ample = ample;
@@ -57,6 +61,7 @@ pub path_moved : (x y : Whole) (begun : Bool) (held : List Visit) (room : ℕ) �
 path_moved x y begun held room begins visits sized was = record {
   begun = begins ∙ was.begun;
   visits = same_visits held x.path y.path visits ∙ was.visits;
+  fit = subst (λ (z : Size). All (FitsVisit z.slots) held) (sym sized) was.fit;
   rising = was.rising;
   few = subst (λ (z : Size). length held ≤ z.slots + 1) (sym sized) was.few;
   ample = subst (λ (z : Size). z.slots + 1 ≤ room) (sym sized) was.ample;
@@ -149,7 +154,7 @@ among_mapped (v ∷ held) zero d lt = inl refl
 among_mapped (v ∷ held) (suc i) d lt = inr (among_mapped held i d (omega arith))
 
 -- the visits that a pass holds are its path's
-among_held : (held : List Visit) (p : Path) → (path_with held p).visits ≡ map visited_of held → (i : ℕ) (d : Visit) → i < length held
+pub among_held : (held : List Visit) (p : Path) → (path_with held p).visits ≡ map visited_of held → (i : ℕ) (d : Visit) → i < length held
     → IsAmong (visited_of (get_or held i d)) p.visits
 among_held [] p same i d lt = absurd (omega arith)
 among_held (v ∷ held) p same i d lt = subst (IsAmong (visited_of (get_or (v ∷ held) i d))) (sym same) (among_mapped (v ∷ held) i d lt)
@@ -168,6 +173,21 @@ rising_more held p n (Plain x) same above rising = one_more VersionsRise held n 
     (λ i d lt here. above (visited_of (get_or held i d)) x refl (among_held held p same i d lt) here))
 rising_more held p n (Install q i) same above rising = subst VersionsRise (sym (append-nil held)) rising
 rising_more held p n (Exchange q a) same above rising = subst VersionsRise (sym (append-nil held)) rising
+
+visitable_below : (x : ℕ) (c : Bool) → (if c then nat_lt x 1152921504606846970 else false) ≡ true → x < last_version
+visitable_below x true is = grind (arith, nat_tests)
+visitable_below x false is = absurd (cc)
+
+fit_more : (held : List Visit) (n slots : ℕ) (k : WordKind) → IsNode slots n → All (FitsVisit slots) held → All (FitsVisit slots) (held ++ visits_in n k)
+fit_more held n slots (Plain x) inside fit = one_more (All (FitsVisit slots)) held n x (is_visitable x) fit
+    (λ is. All-push (FitsVisit slots) held (record { node = n; version = x }) fit (inside, visitable_below x (x % 2 == 0) is))
+fit_more held n slots (Install q i) inside fit = subst (All (FitsVisit slots)) (sym (append-nil held)) fit
+fit_more held n slots (Exchange q a) inside fit = subst (All (FitsVisit slots)) (sym (append-nil held)) fit
+
+pub visits_fit : (x y : Whole) (n r : ℕ) (held new : List Visit) → y.view.size ≡ x.view.size → IsNode x.view.size.slots n
+    → All (FitsVisit x.view.size.slots) held → new ≡ held ++ visits_in n (kind r) → All (FitsVisit y.view.size.slots) new
+visits_fit x y n r held new sized inside fit is = subst (λ (z : Size). All (FitsVisit z.slots) new) (sym sized)
+    (subst (All (FitsVisit x.view.size.slots)) (sym is) (fit_more held n x.view.size.slots (kind r) inside fit))
 
 few_more : (held : List Visit) (n slots : ℕ) (k : WordKind) → length held ≤ slots → length (held ++ visits_in n k) ≤ slots + 1
 few_more held n slots (Plain x) few = one_more (λ l. length l ≤ slots + 1) held n x (is_visitable x) (omega arith)
@@ -216,6 +236,16 @@ pub visit_with : (held new : List Visit) (p q : Path) (n : ℕ) (k : WordKind) (
 visit_with held new p q n k first is goes more =
     let same : q ≡ with_visit (path_with held p) n k = goes ∙ ap (λ (u : Path). with_visit u n k) (either_begins held p first is) in
     (λ i. path_with (more i) (same i)) ∙ visit_held held p n k
+
+begun_visited : (p : Path) (n : ℕ) (k : WordKind) → (with_visit p n k).begun ≡ p.begun
+begun_visited p n (Plain x) = either_path (λ q. q.begun ≡ p.begun) (is_visitable x) (more_visits p n x) p refl refl
+begun_visited p n (Install q i) = refl
+begun_visited p n (Exchange q a) = refl
+
+-- a visit leaves it that an operation has begun
+pub visit_begun : (p q : Path) (n : ℕ) (k : WordKind) (first : Bool) → q ≡ with_visit (if first then dropped p else p) n k → q.begun ≡ p.begun
+visit_begun p q n k first goes = ap (λ (u : Path). u.begun) goes ∙ begun_visited (if first then dropped p else p) n k
+    ∙ either_path (λ u. u.begun ≡ p.begun) first (dropped p) p refl refl
 
 plain_then : (p : Path) (n x : ℕ) (c : Bool) → (if c then more_visits p n x else p).visits
     ≡ p.visits ++ map visited_of (if c then record { node = n; version = x } ∷ [] else [])

@@ -1,5 +1,5 @@
 -- What the words that a closed board leaves say by themselves.
-use Rattle.std.specs.Prelude.{◌≡◌, ◌≢◌, ℕ, ◌<◌, List, [], ◌∷◌, ◌++◌}
+use Rattle.std.specs.Prelude.{◌≡◌, ◌≢◌, ℕ, ◌<◌, ◌≤◌, List, [], ◌∷◌, ◌++◌, Option, Some, None}
 use Rattle.std.specs.Mem.Slots.{slots_items}
 use Rattle.pc_model.specs.declared.cell.Field.{Field}
 use Rattle.pc_model.specs.declared.shape.Shape.{Ghosts}
@@ -11,7 +11,7 @@ use Rattle.pc_words.specs.declared.word.WordKind.TheVariants.{Install}
 use Rattle.pc_rule_law.specs.Board.{Board, board_in}
 use Rattle.pc_rule_law.specs.Past.{Has}
 use Rattle.pc_rule_law.specs.Values.{HasPlainValue}
-use Rattle.pc_protocol.specs.Histories.{committed}
+use Rattle.pc_protocol.specs.Histories.{Cause, committed, aborted}
 use Rattle.pc_protocol.specs.Notes.{Note, published, verdict, in_run}
 use Rattle.pc_exchange_law.specs.Ties.{code}
 use Rattle.pc_rule.specs.declared.board.Pass.{Pass}
@@ -38,16 +38,26 @@ module _ {H : Type 0} {S : Ghosts H} where
   told_by (p ∷ passes) = (knows p).told ++ told_by passes
 
   -- The words that are left say the cells that a run leaves from these: exchanges by rising stamps, each of which stands in
-  -- the cells that the earlier ones leave. An attempt of which the passes have noted its exchange, and that it took effect,
-  -- stands in it at its stamp; and so does a read of which they have noted that it took effect.
+  -- the cells that the earlier ones leave. Each is of one attempt, which stands in it once, or it changes nothing. An attempt of
+  -- which the passes have noted its exchange, and that it took effect, stands in it at its stamp, which isn't below the clock
+  -- that was read before its publication; one of which they have noted
+  -- that it failed doesn't stand in it; and a read stands in it of which they have noted that it took effect.
   pub record IsLeftByRun (c : Closed H S) (opening : Cells) (passes : List (Pass H S)) : Type 0 where
     pub begin : Cells
     pub begins : (n : ℕ) (f : Field) → begin n f ≡ opening n f
     pub run : List Stamped
     pub stands : IsWorldRun begin 0 run
     pub leaves : LeavesCells c (cells_after begin run)
+    -- the attempt that stands at a stamp, if it is an attempt
+    pub maker : ℕ → Option ℕ
+    pub once : (x y : Stamped) (i : ℕ) → IsAmong x run → IsAmong y run → maker x.stamp ≡ Some i → maker y.stamp ≡ Some i
+        → x.stamp ≡ y.stamp
+    pub unmade : (x : Stamped) → IsAmong x run → maker x.stamp ≡ None → (x.what.changes ≡ []) × (x.what.fresh ≡ None)
     pub won : (p a s b : ℕ) (e : Exchange) → p < 64 → Has (told_by passes) (published (code p a) e b)
-        → Has (told_by passes) (verdict (code p a) (committed s)) → IsAmong (record { stamp = s; what = e }) run
+        → Has (told_by passes) (verdict (code p a) (committed s))
+        → IsAmong (record { stamp = s; what = e }) run × (maker s ≡ Some (code p a)) × (b ≤ s)
+    pub lost : (x : Stamped) (p a : ℕ) (cause : Cause) → Has (told_by passes) (verdict (code p a) (aborted cause)) → IsAmong x run
+        → maker x.stamp ≢ Some (code p a)
     pub read : (s : ℕ) (e : Exchange) → Has (told_by passes) (in_run s e) → IsAmong (record { stamp = s; what = e }) run
 
   -- an install stands in no word of a node

@@ -11,4 +11,5 @@ pub mod Recorded
 pub mod Shares
 pub mod Sizes
 pub mod Starting
+pub mod Stored
 pub mod Walking

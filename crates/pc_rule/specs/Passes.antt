@@ -1,5 +1,5 @@
 -- What clauses say of a board and its passes.
-use Rattle.std.specs.Prelude.{◌≡◌, ℕ, zero, suc, ◌<◌, ◌≤◌, List, length}
+use Rattle.std.specs.Prelude.{◌≡◌, ℕ, ◌<◌, ◌≤◌, List, length}
 use mathlib.Core.Option.{some}
 use lib.ListN.{get_elem?}
 use Rattle.pc_model.specs.declared.call.Entry.{Entry}
@@ -97,8 +97,3 @@ module _ {H : Type 0} {S : Ghosts H} where
   -- nothing but its visits changed
   abbrev pub OnlyVisited : Pass H S → Pass H S → Type 0
   OnlyVisited old new = (new.seat ≡ old.seat) × (share_of new ≡ share_of old) × (new.entries ≡ old.entries) × (new.listed ≡ old.listed)
-
--- the number of the own install after a store to this word of its descriptor
-abbrev pub number_after : ℕ → ℕ → ℕ → ℕ
-number_after zero new old = new
-number_after (suc place) new old = old

@@ -1,10 +1,11 @@
 -- What a pass holds of the nodes that it visited, and what that says of its path.
-use Rattle.std.specs.Prelude.{◌≡◌, ℕ, ◌+◌, ◌≤◌, if◌then◌else◌, Bool, List, [], ◌∷◌, length, map, Option, Some, None}
-use Rattle.std.specs.List.{AllPairs}
+use Rattle.std.specs.Prelude.{◌≡◌, ℕ, ◌+◌, ◌<◌, ◌≤◌, if◌then◌else◌, Bool, List, [], ◌∷◌, length, map, Option, Some, None}
+use Rattle.std.specs.List.{All, AllPairs}
+use Rattle.pc_model.specs.Cells.{IsNode}
 use Rattle.pc_model.specs.Exchanges.{Visited}
 use Rattle.pc_words.specs.declared.word.WordKind.{WordKind}
 use Rattle.pc_words.specs.declared.word.WordKind.TheVariants.{Plain, Install, Exchange}
-use Rattle.pc_exchange_law.specs.Paths.{Path, dropped, begun_path, ended_path, is_visitable}
+use Rattle.pc_exchange_law.specs.Paths.{Path, dropped, begun_path, ended_path, last_version, is_visitable}
 use Rattle.pc_exchange_law.specs.Wholes.{Whole}
 use Rattle.pc_rule.specs.declared.visit.Visit.{Visit}
 
@@ -16,6 +17,10 @@ abbrev pub path_with : List Visit → Path → Path
 path_with [] p = dropped p
 path_with (v ∷ visits) p = p
 
+-- the visit is of a node of a board with so many slots, at a version below the last one
+abbrev pub FitsVisit : ℕ → Visit → Type 0
+FitsVisit slots v = IsNode slots v.node × (v.version < last_version)
+
 -- where a node was visited again, its version wasn't smaller than before
 abbrev pub VersionsRise : List Visit → Type 0
 VersionsRise visits = AllPairs (λ u v. u.node ≡ v.node → u.version ≤ v.version) visits
@@ -24,6 +29,7 @@ VersionsRise visits = AllPairs (λ u v. u.node ≡ v.node → u.version ≤ v.ve
 pub record HoldsPath (x : Whole) (has_begun : Bool) (held : List Visit) (room : ℕ) : Type 0 where
   pub begun : x.path.begun ≡ has_begun
   pub visits : (path_with held x.path).visits ≡ map visited_of held
+  pub fit : All (FitsVisit x.view.size.slots) held
   pub rising : VersionsRise held
   pub few : length held ≤ x.view.size.slots + 1
   pub ample : x.view.size.slots + 1 ≤ room

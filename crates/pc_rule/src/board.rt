@@ -1,13 +1,15 @@
 //! The board, and what a pass steps on it with.
-ghost use Rattle.std.specs.Prelude.{◌≡◌, ◌<◌, ◌≤◌, [], true, length, vec_capacity};
-ghost use Rattle.pc_rule_law.specs.Board.{words_of};
+ghost use Rattle.std.specs.Prelude.{◌≡◌, ◌+◌, ◌*◌, ◌<◌, ◌≤◌, [], true, length, vec_capacity};
+ghost use Rattle.pc_rule_law.specs.Board.{owns_begin, stride, words_of};
 ghost use Rattle.pc_rule_law.specs.Tables.{size_of};
 ghost use Rattle.pc_rule.specs.Attempts.{AgreeOnAttempt};
 ghost use Rattle.pc_rule.specs.Listed.{AreListed};
+ghost use Rattle.pc_rule.specs.Stored.{install_of, HoldsWords};
 ghost use Rattle.pc_rule.specs.Walking.{HoldsPath};
 
 use crate::opening::Place;
 use crate::share::Share;
+use crate::stored::InstallWords;
 use crate::visit::Visit;
 use atomic_table::{Seat, Table};
 use pc_exchange_law::{WholeLaw, WholeView};
@@ -31,15 +33,21 @@ pub struct Board<H: Shape> {
     ghost small: { (seats ≤ 32) × (slots ≤ 61000) },
 }
 
-/// A seat at a board, with what its pass knows, the calls that it recorded, the words that it lists for its exchange, and the
-/// nodes that it visited in the operation that it has begun. The pass with the highest seat has room for the calls of all passes, which it takes in at the closing.
+/// A seat at a board, with what its pass knows, the words that stand in its own descriptors, the calls that it recorded, the words
+/// that it lists for its exchange, and the nodes that it visited in the operation that it has begun. The pass with the highest seat
+/// has room for the calls of all passes, which it takes in at the closing.
 #[derive(Drop)]
 pub struct Pass<H: Shape> {
     pub(crate) seat: Seat<bool, WholeView>,
     pub(crate) index: usize,
-    pub(crate) installs: u64,
+    /// Where its words begin.
+    pub(crate) begin: usize,
+    /// The words of its install's descriptor.
+    pub(crate) install: InstallWords,
     pub(crate) attempts: u64,
     pub(crate) published: bool,
+    /// The first words of its descriptor.
+    pub(crate) words: Vec<u64>,
     pub(crate) share: Share,
     pub(crate) entries: Vec<Entry>,
     pub(crate) listed: Vec<Place>,
@@ -48,9 +56,11 @@ pub struct Pass<H: Shape> {
     pub(crate) shape: PhantomData<H>,
     ghost live: { seat.me.0.view.live ≡ true },
     ghost numbered: { seat.me.0.view.seat ≡ index },
-    ghost counted: { seat.me.0.view.install.number ≡ installs },
+    ghost placed: { begin ≡ owns_begin seat.me.0.view.size + index * stride seat.me.0.view.size },
+    ghost counted: { seat.me.0.view.install ≡ install_of install },
     ghost tried: { seat.me.0.view.attempt.number ≡ attempts },
     ghost pending: { seat.me.0.view.attempt.published ≡ published },
+    ghost written: { HoldsWords seat.me.0.view.attempt.words words.items },
     ghost holds_none: { seat.me.1 ≡ [] },
     ghost one_attempt: { AgreeOnAttempt seat.me.0 },
     ghost few: { index < 32 },

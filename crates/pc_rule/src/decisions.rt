@@ -56,7 +56,7 @@ pub fn step_14_own<H: Shape>(board: &Board<H>, pass: &mut Pass<H>, old: u64, new
     ensures pass { IsSamePass pass.old pass.new }
     ensures told { StatusTried (whole pass.old) (view pass.old).seat old result (λ y. y ≡ record (whole pass.old) { view = after_decided (view pass.old) (view pass.old).seat (knows pass.old).own.number; knows = after_withdrawal (knows pass.old) (code (view pass.old).seat (knows pass.old).own.number) (aborted withdrawn) }) (whole pass.new) }
 {
-    let word = board.own_word(pass.index, 0);
+    let word = board.word_of(pass, 0);
     board
         .table
         .shared
@@ -92,7 +92,7 @@ pub fn step_16<H: Shape>(board: &Board<H>, pass: &mut Pass<H>, new: u64)
     ensures pass { IsSamePass pass.old pass.new }
     ensures told { whole pass.new ≡ record (whole pass.old) { view = after_clear (view pass.old); knows = after_clearing (knows pass.old) } }
 {
-    let word = board.own_word(pass.index, 0);
+    let word = board.word_of(pass, 0);
     board
         .table
         .shared

@@ -13,6 +13,7 @@ ghost use Rattle.pc_rule.specs.Conditions.{MayPublish, KnowsPublished};
 ghost use Rattle.pc_rule.specs.Passes.{whole, view, knows, aim, board_size, IsPassOf, IsSamePass, HasPass};
 
 use crate::board::{Board, Pass};
+use crate::stored::keep_word;
 use pc_exchange_law::{WholeLoadClock, WholeLoadWord, WholePublish, WholeStoreWord};
 use pc_model::Shape;
 
@@ -37,11 +38,12 @@ pub fn step_10<H: Shape>(board: &Board<H>, pass: &mut Pass<H>, place: u32, new: 
     ensures learnt { knows pass.new ≡ after_own_store (knows pass.old) place new }
     ensures aim { aim pass.new ≡ aim pass.old }
 {
-    let word = board.own_word(pass.index, 6 + place as usize);
+    let word = board.word_of(pass, 6 + place as usize);
     board
         .table
         .shared
         .store::<WholeStoreWord>(&mut pass.seat, word, new);
+    keep_word(&mut pass.words, place, new);
 }
 
 /// Publishes the own next attempt: a store of the status that says that it is undecided. Its words are those that stand in
@@ -54,7 +56,7 @@ pub fn step_11<H: Shape>(board: &Board<H>, pass: &mut Pass<H>, new: u64)
     ensures learnt { KnowsPublished (whole pass.old) (knows pass.new) }
     ensures aim { aim pass.new ≡ aim pass.old }
 {
-    let word = board.own_word(pass.index, 0);
+    let word = board.word_of(pass, 0);
     board
         .table
         .shared

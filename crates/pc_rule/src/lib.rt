@@ -21,6 +21,7 @@ mod recorded;
 mod refs;
 mod share;
 mod steps;
+mod stored;
 mod visit;
 
 pub use board::{Board, Pass};

@@ -17,12 +17,15 @@ ghost use Rattle.pc_rule.specs.Passes.{whole, view, knows, board_size, share_of,
 ghost use Rattle.pc_rule.specs.Recorded.{calls_of, recorded_by, HasRoomFor};
 ghost use Rattle.pc_rule.specs.Left.{told_by};
 ghost use Rattle.pc_rule.specs.Opened.{AreOpened, AreInOrder};
+ghost use Rattle.pc_rule.specs.Stored.{HoldsWords};
 
 use crate::board::{Board, Pass};
 use crate::listed::list_room;
 use crate::opening::{Place, words_start};
+use crate::places::own_place;
 use crate::recorded::room_for;
 use crate::share::Share;
+use crate::stored::{install_start, words_room};
 use crate::visit::{Visit, visit_room};
 use atomic_table::{Closed, Table};
 use pc_exchange_law::{WholeJoinPass, WholeLaw, WholeMakePass, WholeView};
@@ -47,6 +50,7 @@ impl<H: Shape> Board<H> {
         ensures list { IfOk result (λ r. listed r.1 ≡ []) }
     {
         let entries = room_for(alloc, shares, 0)?;
+        let stored = words_room(alloc)?;
         let listed = list_room(alloc)?;
         let visits = visit_room(alloc, opening.slots)?;
         let mut kept = Vec::new(alloc);
@@ -67,9 +71,11 @@ impl<H: Shape> Board<H> {
         let pass = Pass {
             seat,
             index: 0,
-            installs: opening.starts.install,
+            begin: own_place(opening.slots, 0, 0),
+            install: install_start(opening.starts.install),
             attempts: opening.starts.attempt,
             published: false,
+            words: stored,
             share: shares[0],
             entries,
             listed,
@@ -80,13 +86,15 @@ impl<H: Shape> Board<H> {
         Ok((board, pass))
     }
 
-    /// The last pass makes another, with this share and this room for its calls, for its words and for its visits.
+    /// The last pass makes another, with this share, and this room for its calls, for what stands in its descriptor, for the words that
+    /// it lists and for its visits.
     fn another(
         &self,
         last: &mut Pass<H>,
         index: usize,
         share: Share,
         entries: Vec<Entry>,
+        words: Vec<u64>,
         places: Vec<Place>,
         visits: Vec<Visit>,
     ) -> Pass<H>
@@ -94,6 +102,7 @@ impl<H: Shape> Board<H> {
         requires index { ((view last.old).seat + 1 ≡ index) × (index < (board_size self.now).seats) }
         requires share { get_elem? self.now.shares.items index ≡ some share }
         requires room { (entries.items ≡ []) × (share.calls ≤ vec_capacity entries) }
+        requires words { HoldsWords [] words.items }
         requires list { (places.items ≡ []) × (24 ≤ vec_capacity places) }
         requires visits { (visits.items ≡ []) × ((board_size self.now).slots + 1 ≤ vec_capacity visits) }
         ensures pass { IsPassOf self.now last.new × (whole last.new ≡ whole_maker (whole last.old)) }
@@ -109,9 +118,11 @@ impl<H: Shape> Board<H> {
         Pass {
             seat,
             index,
-            installs: self.starts.install,
+            begin: own_place(self.slots, index, 0),
+            install: install_start(self.starts.install),
             attempts: self.starts.attempt,
             published: false,
+            words,
             share,
             entries,
             listed: places,
@@ -138,6 +149,7 @@ impl<H: Shape> Board<H> {
         let mut made = 0;
         while made + 1 < opening.seats {
             let entries = room_for(alloc, shares, made + 1)?;
+            let words = words_room(alloc)?;
             let listed = list_room(alloc)?;
             let visits = visit_room(alloc, opening.slots)?;
             let next = board.another(
@@ -145,6 +157,7 @@ impl<H: Shape> Board<H> {
                 made + 1,
                 shares[made + 1],
                 entries,
+                words,
                 listed,
                 visits,
             );

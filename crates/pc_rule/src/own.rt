@@ -10,7 +10,7 @@ impl<H: Shape> Pass<H> {
     pub fn installs(&self) -> u64
         ensures { result ≡ (view self.now).install.number }
     {
-        self.installs
+        self.install.number
     }
 
     /// The number of its last attempt, or what the board starts at.

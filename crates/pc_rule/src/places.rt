@@ -2,9 +2,9 @@
 ghost use Rattle.std.specs.Prelude.{◌≡◌, ℕ, ◌+◌, ◌*◌, ◌/◌, ◌<◌, ◌≤◌};
 ghost use Rattle.pc_model.specs.Cells.{field_number, IsNode};
 ghost use Rattle.pc_rule_law.specs.Board.{Size, at_epoch, at_cell, place_number, address, stride, owns_begin};
-ghost use Rattle.pc_rule.specs.Passes.{board_size};
+ghost use Rattle.pc_rule.specs.Passes.{view, board_size, IsPassOf};
 
-use crate::board::Board;
+use crate::board::{Board, Pass};
 use pc_model::{Field, Shape};
 
 /// The place of a field in its node.
@@ -61,5 +61,15 @@ impl<H: Shape> Board<H> {
         ensures { result ≡ owns_begin (board_size self.now) + (seat * stride (board_size self.now) + offset) }
     {
         own_place(self.slots, seat, offset)
+    }
+
+    /// Where a word of this pass lies, at this place among its words.
+    pub(crate) fn word_of(&self, pass: &Pass<H>, offset: usize) -> usize
+        requires pass { IsPassOf self.now pass.now }
+        requires offset { offset < stride (board_size self.now) }
+        ensures { result ≡ owns_begin (board_size self.now) + ((view pass.now).seat * stride (board_size self.now) + offset) }
+    {
+        let _ = self;
+        pass.begin + offset
     }
 }

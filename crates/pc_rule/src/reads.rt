@@ -4,6 +4,7 @@
 //! nodes had these versions then, and the words these numbers. Where a check doesn't pass, the visits are dropped, and the
 //! next visit begins anew.
 ghost use Rattle.std.specs.Prelude.{◌≡◌, ◌≢◌, ◌+◌, ◌<◌, ◌≤◌, ◌++◌, nat_le, [], true, false, if◌then◌else◌, length, map, vec_capacity};
+ghost use Rattle.std.specs.List.{All};
 ghost use Rattle.pc_model.specs.declared.cell.Field.TheVariants.{Version};
 ghost use Rattle.pc_words.specs.Words.{kind, IsWord};
 ghost use Rattle.pc_rule_law.specs.Board.{at_epoch, address};
@@ -12,7 +13,7 @@ ghost use Rattle.pc_exchange_law.specs.Paths.{dropped, begun_path, ended_path, w
 ghost use Rattle.pc_exchange_law.specs.Ties.{last_stamp};
 ghost use Rattle.pc_exchange_law.specs.WholePlays.{CellSeen, ReadDrawn, PathChecked};
 ghost use Rattle.pc_rule.specs.Passes.{whole, view, knows, aim, visits, path, board_size, IsPassOf, StaysSeated, OnlyVisited, HasNode};
-ghost use Rattle.pc_rule.specs.Walking.{visited_of, visits_in, visit_list, turned, VersionsRise};
+ghost use Rattle.pc_rule.specs.Walking.{visited_of, visits_in, visit_list, turned, FitsVisit, VersionsRise};
 
 use crate::board::{Board, Pass};
 use crate::visit::Visit;
@@ -172,6 +173,7 @@ impl<H: Shape> Pass<H> {
     pub fn visits(&self) -> &[Visit]
         ensures visits { result.now ≡ visits self.now }
         ensures few { length (visits self.now) ≤ (view self.now).size.slots + 1 }
+        ensures fit { All (FitsVisit (view self.now).size.slots) (visits self.now) }
         ensures rising { VersionsRise (visits self.now) }
         ensures path { (path self.now).visits ≡ map visited_of (visits self.now) }
     {

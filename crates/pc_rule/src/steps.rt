@@ -6,7 +6,7 @@ ghost use Rattle.pc_rule_law.specs.Plays.{after_store, InstallLoaded, InstallTri
 ghost use Rattle.pc_exchange_law.specs.Knowing.{StatusSeen};
 ghost use Rattle.pc_exchange_law.specs.WholePlays.{CellSeen, IsNotCleared, OldDiffers, OwnVerdict, WordSwapped};
 ghost use Rattle.pc_rule.specs.Conditions.{MayPlaceInstall, MayTakeInstall};
-ghost use Rattle.pc_rule.specs.Passes.{whole, view, knows, aim, board_size, IsPassOf, IsSamePass, HasNode, HasPass, number_after};
+ghost use Rattle.pc_rule.specs.Passes.{whole, view, knows, aim, board_size, IsPassOf, IsSamePass, HasNode, HasPass};
 ghost use Rattle.pc_words.specs.Statuses.{IsStatus, unpacked};
 
 use crate::board::{Board, Pass};
@@ -24,22 +24,12 @@ pub fn step_3<H: Shape>(board: &Board<H>, pass: &mut Pass<H>, place: u32, new: u
     ensures told { view pass.new ≡ after_store (view pass.old) place new }
     ensures learnt { (knows pass.new ≡ knows pass.old) × (aim pass.new ≡ aim pass.old) }
 {
-    let word = board.own_word(pass.index, 2 + place as usize);
+    let word = board.word_of(pass, 2 + place as usize);
     board
         .table
         .shared
         .store::<WholeStoreInstall>(&mut pass.seat, word, new);
-    pass.installs = number_then(place, new, pass.installs);
-}
-
-// The number of the own install after a store.
-fn number_then(place: u32, new: u64, old: u64) -> u64
-    ensures { result ≡ number_after place new old }
-{
-    match place {
-        0 => new,
-        _ => old,
-    }
+    pass.install.set(place, new);
 }
 
 /// A load of a word of an install descriptor, at a place from 0 to 3.

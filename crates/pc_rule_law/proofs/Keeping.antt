@@ -10,7 +10,7 @@ use Rattle.pc_words.specs.declared.word.WordKind.TheVariants.{Exchange}
 use Rattle.pc_rule_law.specs.Board.{Size, Board}
 use Rattle.pc_rule_law.specs.Past.{Has, Attempt, Placing, Past, change, placing_word}
 use Rattle.pc_rule_law.specs.Stages.{IsIdle, IsUndecided, DecidedBelow}
-use Rattle.pc_rule_law.specs.Views.{Note, version, entry, placed, loaded, install_word, early, removed, decided_below, held, clean, clock_at, word_loaded, attempt_word, OwnAttempt, View, IsClean, IsNoted, NoteHolds, AllNotes, with_notes}
+use Rattle.pc_rule_law.specs.Views.{Note, version, entry, placed, loaded, install_word, early, removed, decided_below, held, clean, clock_at, word_loaded, attempt_word, had, OwnAttempt, View, IsClean, IsNoted, NoteHolds, AllNotes, with_notes}
 use Rattle.pc_rule_law.specs.Rule.{Own, OwnTries, opening_own, Known, Shared, Kept}
 use Rattle.pc_rule_law.proofs.Lists.{each_moved, below_length, all_both}
 use Rattle.pc_rule_law.proofs.Stages.{undecided_or_decided, decided_not_undecided}
@@ -95,6 +95,7 @@ note_stays b b' h h' g (word_loaded p a place x) t = let m = g.numbers p in let 
     (omega arith, λ e busy. let was = g.written p a t.0 e busy in was.2 place ∙ t.1 was.0 was.1)
 note_stays b b' h h' g (attempt_word p a place x) t = let m = g.numbers p in let le = t.0 in
     (omega arith, g.words p a t.0 place ∙ t.1)
+note_stays b b' h h' g (had n f x) t = t
 
 -- what a pass knows of its attempts stays true while others step
 pub tries_stay : (slots : ℕ) (b b' : Board) (j : ℕ) (own : OwnAttempt) → LeavesTries b b' j → OwnTries slots b j own

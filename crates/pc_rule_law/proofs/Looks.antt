@@ -12,11 +12,11 @@ use Rattle.pc_words.specs.Words.{raw, kind, InRange}
 use Rattle.pc_words.proofs.Words.{kind_raw, raw_is_word}
 use Rattle.pc_rule_law.specs.Board.{Size, at_cell, address, Inside, Board}
 use Rattle.pc_rule_law.specs.Past.{Past}
-use Rattle.pc_rule_law.specs.Views.{View, version, placed, held, IsNoted, NoteInRange, NoteHolds, AllNotes, with_notes}
+use Rattle.pc_rule_law.specs.Views.{View, version, placed, held, had, IsNoted, NoteInRange, NoteHolds, AllNotes, with_notes}
 use Rattle.pc_rule_law.specs.Rule.{Standing, CellOk, Placed, Shared, Holds}
 use Rattle.pc_rule_law.specs.Plays.{Mine, SameSeat, found, IsOpeningWord, CellFound, LoadedCell, loads_cell}
 use Rattle.pc_rule_law.specs.Tables.{KeepsOpening}
-use Rattle.pc_rule_law.proofs.Lists.{all_none, all_one}
+use Rattle.pc_rule_law.proofs.Lists.{all_one}
 use Rattle.pc_rule_law.proofs.Keeping.{noted_more}
 use Rattle.pc_rule_law.proofs.Steps.{Looks, looked}
 
@@ -32,13 +32,13 @@ module _ (sound : ℕ → Cells → Type 0) (z : Size) (b : Board) (h : Past) (s
       → AllNotes (IsNoted b h) (found n f w)
   found_noted n Version (Plain x) is ok = all_one (IsNoted b h) (version n x)
       (let e : x ≡ h.plain n Version = ok in omega arith)
-  found_noted n Key (Plain x) is ok = all_none (IsNoted b h)
-  found_noted n Value (Plain x) is ok = all_none (IsNoted b h)
-  found_noted n Left (Plain x) is ok = all_none (IsNoted b h)
-  found_noted n Right (Plain x) is ok = all_none (IsNoted b h)
-  found_noted n Parent (Plain x) is ok = all_none (IsNoted b h)
-  found_noted n Height (Plain x) is ok = all_none (IsNoted b h)
-  found_noted n Spare (Plain x) is ok = all_none (IsNoted b h)
+  found_noted n Key (Plain x) is ok = all_one (IsNoted b h) (had n Key x) tt
+  found_noted n Value (Plain x) is ok = all_one (IsNoted b h) (had n Value x) tt
+  found_noted n Left (Plain x) is ok = all_one (IsNoted b h) (had n Left x) tt
+  found_noted n Right (Plain x) is ok = all_one (IsNoted b h) (had n Right x) tt
+  found_noted n Parent (Plain x) is ok = all_one (IsNoted b h) (had n Parent x) tt
+  found_noted n Height (Plain x) is ok = all_one (IsNoted b h) (had n Height x) tt
+  found_noted n Spare (Plain x) is ok = all_one (IsNoted b h) (had n Spare x) tt
   found_noted n f (Install q k) is ok = all_one (IsNoted b h) (placed q k n f) (
     (let e : h.course q k ≡ 1 = ok.stands in omega arith),
     ok.at_node,
@@ -56,13 +56,13 @@ module _ (sound : ℕ → Cells → Type 0) (z : Size) (b : Board) (h : Past) (s
       → CellOk z.seats b.status h.attempt h.placing h.course (h.plain n f) n f w
       → AllNotes (NoteInRange z) (found n f w)
   found_ranged n Version (Plain x) in_n small ok = all_one (NoteInRange z) (version n x) (in_n, small)
-  found_ranged n Key (Plain x) in_n small ok = all_none (NoteInRange z)
-  found_ranged n Value (Plain x) in_n small ok = all_none (NoteInRange z)
-  found_ranged n Left (Plain x) in_n small ok = all_none (NoteInRange z)
-  found_ranged n Right (Plain x) in_n small ok = all_none (NoteInRange z)
-  found_ranged n Parent (Plain x) in_n small ok = all_none (NoteInRange z)
-  found_ranged n Height (Plain x) in_n small ok = all_none (NoteInRange z)
-  found_ranged n Spare (Plain x) in_n small ok = all_none (NoteInRange z)
+  found_ranged n Key (Plain x) in_n small ok = all_one (NoteInRange z) (had n Key x) (in_n, small)
+  found_ranged n Value (Plain x) in_n small ok = all_one (NoteInRange z) (had n Value x) (in_n, small)
+  found_ranged n Left (Plain x) in_n small ok = all_one (NoteInRange z) (had n Left x) (in_n, small)
+  found_ranged n Right (Plain x) in_n small ok = all_one (NoteInRange z) (had n Right x) (in_n, small)
+  found_ranged n Parent (Plain x) in_n small ok = all_one (NoteInRange z) (had n Parent x) (in_n, small)
+  found_ranged n Height (Plain x) in_n small ok = all_one (NoteInRange z) (had n Height x) (in_n, small)
+  found_ranged n Spare (Plain x) in_n small ok = all_one (NoteInRange z) (had n Spare x) (in_n, small)
   found_ranged n f (Install q k) in_n small ok = all_one (NoteInRange z) (placed q k n f)
       (((placed_here n f q k ok).owner, small.1), in_n)
   found_ranged n f (Exchange p a) in_n small ok = all_one (NoteInRange z) (held p a n f) ((ok.owner, small.1), in_n)

@@ -14,7 +14,7 @@ use Rattle.pc_words.specs.Statuses.{unpacked, IsStatus}
 use Rattle.pc_rule_law.specs.Board.{own_status, own_install, own_word, Place, at_clock, at_own, at_cell, address, Inside, place_number}
 use Rattle.pc_rule_law.specs.Past.{Has}
 use Rattle.pc_rule_law.specs.Stages.{IsIdle, IsOpen, decided_by, IsCleared}
-use Rattle.pc_rule_law.specs.Views.{Note, version, entry, placed, loaded, install_word, early, removed, decided_below, held, clean, clock_at, word_loaded, attempt_word, OwnInstall, View, NoteInRange, AllNotes, with_notes}
+use Rattle.pc_rule_law.specs.Views.{Note, version, entry, placed, loaded, install_word, early, removed, decided_below, held, clean, clock_at, word_loaded, attempt_word, had, OwnInstall, View, NoteInRange, AllNotes, with_notes}
 
 abbrev pub Mine : Type 0
 Mine = Me Bool View
@@ -52,13 +52,13 @@ Tells m word T m' = (m'.1 ≡ m.1) × SameSeat m.0 m'.0 × Told m.0 word (T m'.0
 -- what is noted of a word of a node, by what stands in it
 abbrev pub found : ℕ → Field → WordKind → List Note
 found n Version (Plain x) = version n x ∷ []
-found n Key (Plain x) = []
-found n Value (Plain x) = []
-found n Left (Plain x) = []
-found n Right (Plain x) = []
-found n Parent (Plain x) = []
-found n Height (Plain x) = []
-found n Spare (Plain x) = []
+found n Key (Plain x) = had n Key x ∷ []
+found n Value (Plain x) = had n Value x ∷ []
+found n Left (Plain x) = had n Left x ∷ []
+found n Right (Plain x) = had n Right x ∷ []
+found n Parent (Plain x) = had n Parent x ∷ []
+found n Height (Plain x) = had n Height x ∷ []
+found n Spare (Plain x) = had n Spare x ∷ []
 found n f (Install q k) = placed q k n f ∷ []
 found n f (Exchange p a) = held p a n f ∷ []
 

@@ -40,6 +40,8 @@ pub data Note : Type 0 where
   word_loaded : ℕ → ℕ → ℕ → ℕ → Note
   -- a word of the descriptor of attempt a of pass p
   attempt_word : ℕ → ℕ → ℕ → ℕ → Note
+  -- this number was found in the word, with no reference there, or put there
+  had : ℕ → Field → ℕ → Note
 
 -- what the pass's own install descriptor holds
 pub record OwnInstall : Type 0 where
@@ -112,6 +114,8 @@ module _ (clock : ℕ) (status : ℕ → Status) (cell : ℕ → Field → WordK
   IsTrueNote (word_loaded p a place x) = (a ≤ (status p).number)
       × ((status p).number ≡ a → (IsIdle (status p).stage → ⊥) → word p place ≡ x)
   IsTrueNote (attempt_word p a place x) = (a ≤ (status p).number) × (words p a place ≡ x)
+  -- it says what a step of the pass found, and nothing of the word since
+  IsTrueNote (had n f x) = Unit {0}
 
 -- a note is true of a board and a past
 abbrev pub IsNoted : Board → Past → Note → Type 0
@@ -145,6 +149,7 @@ NoteInRange z (clean p a n f) = IsAttempt z p a × IsNode z.slots n
 NoteInRange z (clock_at c) = Unit {0}
 NoteInRange z (word_loaded p a place x) = IsAttempt z p a × (place < descriptor_words z.slots)
 NoteInRange z (attempt_word p a place x) = IsAttempt z p a × (place < descriptor_words z.slots)
+NoteInRange z (had n f x) = IsNode z.slots n × (x < 2 ^ 62)
 
 -- a note holds where it is true and its numbers are those of the board
 abbrev pub NoteHolds : Size → Board → Past → Note → Type 0

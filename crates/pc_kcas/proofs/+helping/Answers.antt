@@ -1,15 +1,17 @@
 -- One word, the words of an exchange, and its help: of each what was noted in its calls, one after the other.
-use Rattle.std.proofs.Common.{◌≡◌, ◌≤◌, ◌-◌, ◌∙◌, Option, None, IfSome, IfNone, rules, arith, sym, subst}
+use Rattle.std.proofs.Common.{◌≡◌, ◌≤◌, ◌+◌, ◌-◌, ◌*◌, ◌∙◌, Option, None, IfSome, IfNone, rules, arith, refl, sym, subst}
 use Rattle.pc_rule_law.specs.Plays.{AddsNotes}
 use Rattle.pc_rule_law.specs.Views.{held}
 use Rattle.pc_rule.specs.Passes.{whole, view, board_size}
 use Rattle.pc_rule.proofs.Calls.{pass_stays}
 use Rattle.pc_dcss.proofs.Staying.{adds_then, notes_ranged}
 use Rattle.pc_kcas.specs.declared.collecting.Halt.{Halt}
+use Rattle.pc_kcas.specs.Bounds.{most_in_one}
 use Rattle.pc_kcas.specs.Collecting.{IsHaltedBy}
 use Rattle.pc_kcas.specs.Takings.{HoldsAt}
 use Rattle.pc_kcas.proofs.Collected.{come_goes, loaded_goes, read_goes, holds_more, holds_word, halted_word, halted_since, halted_if, node_of}
 use Rattle.pc_kcas.proofs.Concluded.{come_over}
+use Rattle.pc_kcas.proofs.Counted.{none_installed, installs_none, installs_more, installs_same, installs_further, word_once, word_helped, word_twice, all_words}
 use Rattle.pc_kcas.proofs.Courses.{past_over, decided_noted}
 use Rattle.pc_kcas.proofs.Evidence.{goes_then, is_word_goes, followed_since, followed_goes, followed_link, followed_more}
 use Rattle.pc_kcas.proofs.Going.{goes_later}
@@ -29,6 +31,17 @@ collecting::collect-returns-in-Some-clause-followed g t c = let e = c.collect_wo
     followed_more c.args.links c.loop-i.left c.collect_word-word.result.links (view c.args.pass.now) (whole c.loop-i.pass) (whole c.collect_word-word.new.pass)
     inv.fewer e.links e.goes_on e.pass.0.2 inv.followed e.followed
 
+pub collecting::collect-returns-in-Some-clause-bounded : goal.collecting::collect-returns-in-Some-clause-bounded
+collecting::collect-returns-in-Some-clause-bounded g t c = let w = c.collect_word-word in let e = w.ensures in let inv = c.loop-i.invariant in let z = (board_size c.args.board.now).slots in
+    let o = view c.args.pass.now in let q = view w.new.pass in let i = c.loop-i.i in let count = c.args.count in
+    let below : i + 1 ≤ count = search rules in
+    installs_more z (3 * i + 3) (3 * count) (c.args.links - w.result.links) o q (omega arith)
+    (installs_further z (3 * i) 3 c.args.links c.loop-i.left w.result.links o (view c.loop-i.pass) q inv.fewer e.links inv.bounded e.bounded)
+
+pub collecting::collect-returns-clause-bounded : goal.collecting::collect-returns-clause-bounded
+collecting::collect-returns-clause-bounded g t c = let inv = c.loop-i.invariant in let below = inv.below in
+    installs_more (board_size c.args.board.now).slots (3 * c.loop-i.i) (3 * c.args.count) (c.args.links - c.loop-i.left) (view c.args.pass.now) (view c.loop-i.pass) (omega arith) inv.bounded
+
 pub collecting::collect-returns-in-Some-clause-halted : goal.collecting::collect-returns-in-Some-clause-halted
 collecting::collect-returns-in-Some-clause-halted g t c = let w = c.collect_word-word in let left = w.result.links in
     halted_since (whole c.args.pass.now) (whole c.loop-i.pass) c.loop-i.invariant.goes.adds (whole w.new.pass) c.args.op left c.in-Some.halt
@@ -46,6 +59,8 @@ collecting::collect-loop-i-preserved g t c =
       counted = loaded_goes (whole p) (whole q) c.args.op 1 c.args.count e.goes_on inv.counted;
       holds = holds_more (whole p) (whole q) c.args.op c.loop-i.i e.goes_on e.pass.0.2 inv.holds
           (subst (λ (h : Option Halt). IfNone h (HoldsAt (whole q) c.args.op c.loop-i.i)) c.in_default.is e.holds);
+      bounded = installs_more (board_size c.args.board.now).slots (3 * c.loop-i.i + 3) (3 * (c.loop-i.i + 1)) (c.args.links - w.result.links) (view o) (view q) (omega arith)
+          (installs_further (board_size c.args.board.now).slots (3 * c.loop-i.i) 3 c.args.links c.loop-i.left w.result.links (view o) (view p) (view q) inv.fewer e.links inv.bounded e.bounded);
       followed = followed_more c.args.links c.loop-i.left w.result.links (view o) (whole p) (whole q) inv.fewer e.links e.goes_on e.pass.0.2 inv.followed e.followed;
     }
 
@@ -60,6 +75,14 @@ collecting::collect_word-returns-in-Ok-clause-goes_on g t c = let r = c.read_pla
 pub collecting::collect_word-returns-in-Ok-clause-followed : goal.collecting::collect_word-returns-in-Ok-clause-followed
 collecting::collect_word-returns-in-Ok-clause-followed g t c = let h = c.hold_word-held in
     followed_since (view c.args.pass.now) (view c.read_place.new.pass) c.read_place.ensures.later.adds (whole h.new.pass) (c.args.links - h.result.links) h.ensures.followed
+
+pub collecting::collect_word-returns-in-Ok-clause-bounded : goal.collecting::collect_word-returns-in-Ok-clause-bounded
+collecting::collect_word-returns-in-Ok-clause-bounded g t c = let h = c.hold_word-held in let v = view c.args.pass.now in let u = view c.read_place.new.pass in let w = view h.new.pass in
+    installs_same (board_size c.args.board.now).slots 3 (c.args.links - h.result.links) v u w w (none_installed v u c.read_place.ensures.later) refl h.ensures.bounded
+
+pub collecting::collect_word-returns-in-Err-clause-bounded : goal.collecting::collect_word-returns-in-Err-clause-bounded
+collecting::collect_word-returns-in-Err-clause-bounded g t c = let v = view c.args.pass.now in let u = view c.read_place.new.pass in
+    installs_none (board_size c.args.board.now).slots 3 (c.args.links - c.args.links) v u (none_installed v u c.read_place.ensures.later)
 
 pub collecting::collect_word-returns-in-Ok-clause-holds : goal.collecting::collect_word-returns-in-Ok-clause-holds
 collecting::collect_word-returns-in-Ok-clause-holds g t c = let h = c.hold_word-held in
@@ -92,6 +115,17 @@ helping::help_linked-returns-in-Err-clause-come g t c = let e = c.in-Err.ensures
     let op = c.args.op in
     come_over x y op c.args.links c.in-Err.status c.ended_by.result (past_over y op c.in-Err.status e.over e.ahead (decided_noted x.view y.view op.seat op.number e.decided) e.passed) e.cleaned
     c.ended_by.ensures.decided c.ended_by.ensures.gone
+
+pub helping::help_linked-returns-in-Err-clause-bounded : goal.helping::help_linked-returns-in-Err-clause-bounded
+helping::help_linked-returns-in-Err-clause-bounded g t c = let v = view c.args.pass.now in let u = view c.read_count.new.pass in let z = (board_size c.args.board.now).slots in
+    installs_none z (most_in_one z) (c.args.links - c.args.links) v u (none_installed v u c.read_count.ensures.later)
+
+pub helping::help_linked-returns-clause-bounded : goal.helping::help_linked-returns-clause-bounded
+helping::help_linked-returns-clause-bounded g t c =
+    let k = c.collect-collected in let v = view c.args.pass.now in let u = view c.read_count.new.pass in let w = view k.new.pass in let x = view c.end_collected-progress.new.pass in
+    let z = (board_size c.args.board.now).slots in
+    installs_same z (most_in_one z) (c.args.links - k.result.links) v u w x (none_installed v u c.read_count.ensures.later) c.end_collected-progress.ensures.no_install
+    (all_words z c.in-Ok.count (c.args.links - k.result.links) u w c.in-Ok.ensures.few k.ensures.bounded)
 
 pub helping::help_linked-collect-collected-requires-clause-come : goal.helping::help_linked-collect-collected-requires-clause-come
 helping::help_linked-collect-collected-requires-clause-come g t c = λ _ _. let r = c.read_count.ensures in
@@ -224,3 +258,23 @@ hold::hold_word-returns-clause-obstacle g t c =
     (is_word_goes z y a.goes_on a.pass.0.2 op at.node at.field (is_word_goes u z h.ensures.goes_on h.ensures.pass.0.2 op at.node at.field
     (is_word_goes x u e.goes_on e.pass.0.2 op at.node at.field c.requires.word))) h.ensures.come (sym c.hindrance.ensures ∙ c.in_default-hindrance.is) told'
     c.args.links c.earlier-first-2.ensures.install c.earlier-first-2.ensures.exchange c.obstacle_after-2.ensures
+
+pub hold::hold_word-returns-in_default-clause-bounded : goal.hold::hold_word-returns-in_default-clause-bounded
+hold::hold_word-returns-in_default-clause-bounded g t c = let k = c.take_word-taken in
+    word_once (board_size c.args.board.now).slots (c.args.links - c.args.links) (view c.args.pass.now) (view k.new.pass) k.result.completed k.ensures.most
+
+pub hold::hold_word-returns-then-links-eq0-clause-bounded : goal.hold::hold_word-returns-then-links-eq0-clause-bounded
+hold::hold_word-returns-then-links-eq0-clause-bounded g t c = let k = c.take_word-taken in
+    word_once (board_size c.args.board.now).slots (c.args.links - c.args.links) (view c.args.pass.now) (view k.new.pass) k.result.completed k.ensures.most
+
+pub hold::hold_word-returns-in-Some-hindrance-clause-bounded : goal.hold::hold_word-returns-in-Some-hindrance-clause-bounded
+hold::hold_word-returns-in-Some-hindrance-clause-bounded g t c = let k = c.take_word-taken in let h = c.help_linked-help in
+    let less = h.ensures.links in let some : 1 ≤ c.args.links = omega arith in
+    word_helped (board_size c.args.board.now).slots c.args.links h.result.links (view c.args.pass.now) (view k.new.pass) (view h.new.pass) k.result.completed some less
+    k.ensures.most h.ensures.bounded
+
+pub hold::hold_word-returns-clause-bounded : goal.hold::hold_word-returns-clause-bounded
+hold::hold_word-returns-clause-bounded g t c = let k = c.take_word-taken in let h = c.help_linked-help in let n = c.take_word-again in
+    let less = h.ensures.links in let some : 1 ≤ c.args.links = omega arith in
+    word_twice (board_size c.args.board.now).slots c.args.links h.result.links (view c.args.pass.now) (view k.new.pass) (view h.new.pass) (view n.new.pass)
+    k.result.completed n.result.completed some less k.ensures.most h.ensures.bounded n.ensures.most

@@ -1,7 +1,8 @@
 -- The links that are left, and at one number of links the order of the calls.
 use Rattle.std.proofs.Common.{◌-◌, ◌+◌, ◌*◌, ◌≤◌}
 use Rattle.pc_rule_law.specs.Conditions.{IsFree}
-use Rattle.pc_rule.specs.Passes.{whole, view, IsSamePass}
+use Rattle.pc_rule.specs.Passes.{whole, view, board_size, IsSamePass}
+use Rattle.pc_kcas.specs.Bounds.{HasInstalled}
 use Rattle.pc_kcas.specs.Obstacles.{GoesOn, HasFollowed}
 use Rattle.pc_kcas.specs.Readings.{HasComeTo, HasLoaded}
 use Rattle.pc_kcas.specs.Takings.{HoldsBelow}
@@ -29,6 +30,7 @@ invariant-collecting::collect-loop-i g l = record {
   come : HasComeTo (whole l.pass) l.op;
   counted : HasLoaded (whole l.pass) l.op 1 l.count;
   holds : HoldsBelow (whole l.pass) l.op l.i;
+  bounded : HasInstalled (board_size l.board).slots (3 * l.i) (l.links - l.left) (view l.initial.pass) (view l.pass);
   followed : HasFollowed (l.links - l.left) (view l.initial.pass) (whole l.pass);
 }
 

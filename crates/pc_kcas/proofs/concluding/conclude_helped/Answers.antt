@@ -1,6 +1,7 @@
 -- By the status, or by the words, or by the status that stood behind one of them.
 use Rattle.pc_rule.specs.Passes.{whole, view}
 use Rattle.pc_kcas.proofs.Concluded.{over_cleared, come_over, come_cleared, clean_met_before}
+use Rattle.pc_kcas.proofs.Counted.{none_installed}
 use Rattle.pc_kcas.proofs.TakeWords.{free_later}
 use Rattle.pc_kcas.proofs.concluding.conclude_helped.Goals as goal
 
@@ -23,3 +24,9 @@ returns-in-None-clause-free g c = free_later (view c.args.pass.now) (view c.clea
 pub returns-in-None-clause-come : goal.returns-in-None-clause-come
 returns-in-None-clause-come g c = λ x left _ _. let y = c.clear_collected.new.pass in let d = c.requires.past.decided in
     come_cleared x (whole y) c.args.op left (d.0, c.clear_collected.ensures.learnt.view.more _ d.1, d.2) c.in-None.ensures.cleared
+
+pub returns-in-Some-clause-no_install : goal.returns-in-Some-clause-no_install
+returns-in-Some-clause-no_install g c = none_installed (view c.args.pass.now) (view c.clear_collected.new.pass) c.clear_collected.ensures.learnt.view
+
+pub returns-in-None-clause-no_install : goal.returns-in-None-clause-no_install
+returns-in-None-clause-no_install g c = none_installed (view c.args.pass.now) (view c.clear_collected.new.pass) c.clear_collected.ensures.learnt.view

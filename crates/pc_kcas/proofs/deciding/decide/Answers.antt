@@ -1,17 +1,20 @@
 -- The decision, by what stood in the status.
-use Rattle.std.proofs.Common.{◌-◌, ◌+◌, ◌≡◌, refl, sym, ap, ◌∙◌, subst, arith}
+use Rattle.std.proofs.Common.{ℕ, ◌-◌, ◌+◌, ◌≡◌, ◌∷◌, refl, sym, ap, ◌∙◌, subst, arith}
 use Rattle.pc_words.specs.declared.status.Status.{Status}
 use Rattle.pc_words.specs.Statuses.{unpacked}
+use Rattle.pc_rule_law.specs.Past.{Has}
 use Rattle.pc_rule_law.specs.Plays.{StatusLoaded}
+use Rattle.pc_rule_law.specs.Views.{decided_below}
 use Rattle.pc_exchange_law.specs.Knowing.{StatusSeen}
 use Rattle.pc_exchange_law.specs.Ties.{code}
+use Rattle.pc_exchange_law.specs.Wholes.{Whole}
 use Rattle.pc_exchange_law.specs.WholePlays.{OwnVerdict, verdict_by}
 use Rattle.pc_protocol.specs.Notes.{verdict}
 use Rattle.pc_rule.specs.Deciding.{MayDecide}
 use Rattle.pc_rule.specs.Passes.{whole, board_size}
 use Rattle.pc_kcas.proofs.Learning.{learnt_decision, decision_told}
 use Rattle.pc_kcas.proofs.Standing.{stands_seen, not_undecided, settled_by, settles_idle, settles_open, may_decide}
-use Rattle.pc_kcas.proofs.Courses.{course_seen}
+use Rattle.pc_kcas.proofs.Courses.{course_seen, course_put}
 use Rattle.pc_kcas.proofs.Failing.{failure_seen, failure_put}
 use Rattle.pc_kcas.proofs.deciding.decide.Goals as goal
 
@@ -62,6 +65,15 @@ returns-clause-failure g c = let x = whole c.args.pass.now in let y = whole c.st
     rw c.unpack.ensures.status (failure_seen x y o.seat (unpacked r)
     (subst (λ i. StatusSeen x.knows i (unpacked r) y.knows) at m.2)
     (subst (λ i. OwnVerdict x i (unpacked r) y) at m.4))
+
+pub returns-then-found-old-clause-course : goal.returns-then-found-old-clause-course
+returns-then-found-old-clause-course g c = let x = whole c.args.pass.now in let y = whole c.step_14-found.new.pass in let o = c.args.op in
+    let at : (o.seat + 1) - 1 ≡ o.seat = omega arith in
+    let number : (unpacked c.pack-old.result).number ≡ o.number = ap (λ (s : Status). s.number) c.pack-old.ensures.back in
+    let notes : y.view.notes ≡ decided_below ((o.seat + 1) - 1) ((unpacked c.pack-old.result).number + 1) ∷ x.view.notes = ap (λ (w : Whole). w.view.notes) (c.step_14-found.ensures.told.hit c.if-found-old.true) in
+    let first : Has y.view.notes (decided_below ((o.seat + 1) - 1) ((unpacked c.pack-old.result).number + 1)) = subst (λ l. Has l (decided_below ((o.seat + 1) - 1) ((unpacked c.pack-old.result).number + 1))) (sym notes) (0, refl) in
+    course_put x y o c.args.stage (subst (λ (i : ℕ × ℕ). Has y.view.notes (decided_below i.0 (i.1 + 1))) (λ t. (at t, number t)) first)
+    (settles_idle x o.seat o.number c.args.stage c.requires.may) (settles_open x o.seat o.number c.args.stage c.requires.may)
 
 pub returns-clause-course : goal.returns-clause-course
 returns-clause-course g c = let x = whole c.args.pass.now in let y = whole c.step_14-found.new.pass in let o = c.args.op in let r = c.step_14-found.result in

@@ -3,14 +3,15 @@ use Rattle.std.proofs.Common.{ap, subst, sym}
 use Rattle.pc_exchange_law.specs.Wholes.{Whole}
 use Rattle.pc_rule_law.specs.Conditions.{IsFree}
 use Rattle.pc_rule_law.specs.Past.{Has}
-use Rattle.pc_rule_law.specs.Views.{clean}
+use Rattle.pc_rule_law.specs.Views.{View, clean}
 use Rattle.pc_rule.specs.declared.refs.Ref.{Ref}
 use Rattle.pc_rule.specs.Passes.{whole, view, board_size}
 use Rattle.pc_rule.proofs.Calls.{only_listed, pass_stays}
 use Rattle.pc_kcas.specs.Exchanges.{own_exchange}
 use Rattle.pc_kcas.specs.Stops.{WereStoppedBy}
 use Rattle.pc_kcas.specs.Verdicts.{HasEnded, EndedSo, KeepsAll, KnewBetween, IsBlocked}
-use Rattle.pc_kcas.proofs.Finished.{ended_free, kept_ended, so_won, so_changed, so_locked, so_blocked, so_numbers, seated_then, why_stopped, stopped_blocked, own_same, clean_listed}
+use Rattle.pc_kcas.proofs.Counted.{same_after}
+use Rattle.pc_kcas.proofs.Finished.{ended_free, kept_ended, so_won, so_lost, so_changed, so_locked, so_blocked, so_numbers, seated_then, why_stopped, stopped_blocked, own_same, clean_listed}
 use Rattle.pc_kcas.proofs.finishing.finish.Goals as goal
 
 pub end_at-verdict-requires-clause-why : goal.end_at-verdict-requires-clause-why
@@ -41,6 +42,11 @@ returns-clause-won g c = let y = whole c.drop_listed.new.self in let by = WereSt
     so_won y y.view.attempt.number by c.end_at-verdict.result
     (subst (λ (w : Whole). EndedSo w w.view.attempt.number c.end_at-verdict.result by) (sym (ap (λ t. t.me.0) c.drop_listed.ensures.only.0)) c.end_at-verdict.ensures.so)
 
+pub returns-clause-lost : goal.returns-clause-lost
+returns-clause-lost g c = let y = whole c.drop_listed.new.self in let by = WereStoppedBy c.hold_listed-stopped.result in
+    so_lost y y.view.attempt.number by c.end_at-verdict.result
+    (subst (λ (w : Whole). EndedSo w w.view.attempt.number c.end_at-verdict.result by) (sym (ap (λ t. t.me.0) c.drop_listed.ensures.only.0)) c.end_at-verdict.ensures.so)
+
 pub returns-clause-changed : goal.returns-clause-changed
 returns-clause-changed g c = let y = whole c.drop_listed.new.self in let by = WereStoppedBy c.hold_listed-stopped.result in
     so_changed y y.view.attempt.number by c.end_at-verdict.result
@@ -66,5 +72,10 @@ returns-clause-blocked g c = let p = c.args.pass.now in let q = c.hold_listed-st
       h.goes_on,
       subst (HasEnded (whole q)) (sym (ap (λ t. t.me.0) c.drop_listed.ensures.only.0)) c.end_at-verdict.ensures.ended,
       subst (λ (o : Ref). IsBlocked z (view p) (whole q) o first second) (own_same p q h.pass h.goes_on)
-          (stopped_blocked z p q t h.published h.index h.met first second by),
+          (stopped_blocked z p q t h.published h.index h.met h.before first second by),
     )) c.end_at-verdict.ensures.so
+
+pub returns-clause-bounded : goal.returns-clause-bounded
+returns-clause-bounded g c = let q = c.hold_listed-stopped.new.pass in let r = c.end_at-verdict.new.pass in let y = c.drop_listed.new.self in
+    same_after (view c.args.pass.now) (view q) (view y) (view r) _ c.hold_listed-stopped.ensures.bounded (ap (λ (v : View). v.install.number) c.end_at-verdict.ensures.ended.view)
+    (ap (λ (w : Whole). w.view.install.number) (ap (λ t. t.me.0) c.drop_listed.ensures.only.0))

@@ -1,7 +1,8 @@
 -- The words below `at` hold the reference.
-use Rattle.std.proofs.Common.{◌≡◌, ℕ, ◌<◌, ◌≤◌, ◌-◌, length}
+use Rattle.std.proofs.Common.{◌≡◌, ℕ, ◌+◌, ◌<◌, ◌≤◌, ◌-◌, length}
 use Rattle.pc_rule_law.specs.Conditions.{IsFree}
-use Rattle.pc_rule.specs.Passes.{whole, view, listed, IsSamePass}
+use Rattle.pc_rule.specs.Passes.{whole, view, listed, board_size, IsSamePass}
+use Rattle.pc_kcas.specs.Bounds.{most_in_end}
 use Rattle.pc_kcas.specs.Exchanges.{IsPublished, IsHeldAt}
 use Rattle.pc_kcas.specs.Obstacles.{GoesOn}
 use Rattle.pc_kcas.proofs.finishing.hold_listed.Given as goal
@@ -13,6 +14,7 @@ invariant-loop-at g l = record {
   goes_on : GoesOn (whole l.initial.pass) (whole l.pass);
   free : IsFree (view l.pass);
   published : IsPublished l.pass;
+  bounded : (view l.pass).install.number ≤ (view l.initial.pass).install.number + most_in_end (board_size l.board) l.at;
   held : (i : ℕ) → i < l.at → IsHeldAt l.initial.pass l.pass i;
 }
 

@@ -1,9 +1,10 @@
 -- By the obstacle: what is known of it is what the end of the help asks for.
-use Rattle.std.proofs.Common.{subst}
+use Rattle.std.proofs.Common.{◌∙◌, subst}
 use Rattle.pc_rule.specs.Passes.{whole, view, board_size}
 use Rattle.pc_dcss.proofs.Staying.{adds_then, notes_ranged}
 use Rattle.pc_kcas.specs.Obstacles.{IsObstacle}
 use Rattle.pc_kcas.proofs.Collected.{come_goes}
+use Rattle.pc_kcas.proofs.Counted.{none_installed}
 use Rattle.pc_kcas.proofs.Courses.{past_settled}
 use Rattle.pc_kcas.proofs.Evidence.{goes_then}
 use Rattle.pc_kcas.proofs.Going.{goes_learnt}
@@ -49,3 +50,7 @@ returns-in-Beyond-clause-come g c = λ o left adds h.
     let s = stuck_beyond o (whole c.args.pass.now) c.args.op c.args.node h.0 left c.in-Beyond.met c.in-Beyond.stuck c.stuck_with-nearer.result h.3
     (subst (IsObstacle o (whole c.args.pass.now) c.args.op c.args.node h.0 h.1 left) c.in-Beyond.is h.4) c.stuck_with-nearer.ensures in
     c.end_stuck-in-Beyond.ensures.come o left adds s
+
+pub returns-in-Changed-clause-no_install : goal.returns-in-Changed-clause-no_install
+returns-in-Changed-clause-no_install g c = let k = c.decide_changed-status in
+    c.conclude_helped.ensures.no_install ∙ none_installed (view c.args.pass.now) (view k.new.pass) k.ensures.learnt.view

@@ -7,6 +7,7 @@ use Rattle.pc_kcas.specs.Collecting.{IsHaltedBy}
 use Rattle.pc_kcas.specs.declared.collecting.Halt.{Halt}
 use Rattle.pc_kcas.proofs.Collected.{come_goes}
 use Rattle.pc_kcas.proofs.Concluded.{come_over}
+use Rattle.pc_kcas.proofs.Counted.{none_installed}
 use Rattle.pc_kcas.proofs.Courses.{past_settled}
 use Rattle.pc_kcas.proofs.Evidence.{goes_then}
 use Rattle.pc_kcas.proofs.Going.{goes_learnt}
@@ -46,3 +47,7 @@ returns-in-Over-clause-come g c = λ o left adds h. let p = whole c.args.pass.no
 pub returns-in-At-clause-come : goal.returns-in-At-clause-come
 returns-in-At-clause-come g c = λ o left adds h. c.end_at.ensures.come o left adds
     (subst (λ (k : Option Halt). IfSome k (IsHaltedBy o (whole c.args.pass.now) c.args.op left)) (c.in-Some.is ∙ ap (λ (k : Halt). Some k) c.in-At.is) h)
+
+pub returns-in-None-clause-no_install : goal.returns-in-None-clause-no_install
+returns-in-None-clause-no_install g c = let k = c.decide_collected-status in
+    c.conclude_helped.ensures.no_install ∙ none_installed (view c.args.pass.now) (view k.new.pass) k.ensures.learnt.view

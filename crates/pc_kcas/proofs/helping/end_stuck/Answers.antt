@@ -1,6 +1,8 @@
 -- It is stuck as it was, or the status that is loaded doesn't say that the exchange is undecided.
+use Rattle.std.proofs.Common.{◌∙◌}
 use Rattle.pc_rule.specs.Passes.{whole, view}
 use Rattle.pc_dcss.proofs.Staying.{adds_then}
+use Rattle.pc_kcas.proofs.Counted.{none_installed}
 use Rattle.pc_kcas.proofs.Courses.{past_loaded}
 use Rattle.pc_kcas.proofs.Evidence.{goes_then, stuck_goes}
 use Rattle.pc_kcas.proofs.Going.{goes_later}
@@ -39,3 +41,9 @@ pub returns-clause-come : goal.returns-clause-come
 returns-clause-come g c = λ o left adds _.
     let x = whole c.args.pass.now in let k = c.load_status-status in let y = whole k.new.pass in let l = k.ensures.loaded in
     c.conclude_helped.ensures.come o left (adds_then o.view x.view y.view adds l.told.later.adds) (cleaned_since o x y c.args.op k.result adds (course_loaded x y c.args.op k.result l))
+
+pub returns-clause-no_install : goal.returns-clause-no_install
+returns-clause-no_install g c = c.conclude_helped.ensures.no_install ∙ none_installed (view c.args.pass.now) (view c.load_status-status.new.pass) c.load_status-status.ensures.loaded.told.later
+
+pub returns-then-says_open-clause-no_install : goal.returns-then-says_open-clause-no_install
+returns-then-says_open-clause-no_install g c = none_installed (view c.args.pass.now) (view c.load_status-status.new.pass) c.load_status-status.ensures.loaded.told.later

@@ -6,8 +6,10 @@ use Rattle.pc_dcss.specs.Installs.{IsMet, IsNews, IfMet}
 use Rattle.pc_dcss.proofs.Meeting.{met_install}
 use Rattle.pc_dcss.proofs.Puts.{place_still}
 use Rattle.pc_dcss.proofs.Staying.{noted_after, decided_after, on_held, on_decided}
+use Rattle.pc_kcas.proofs.Counted.{took_once, took_again}
 use Rattle.pc_kcas.proofs.Evidence.{goes_then}
 use Rattle.pc_kcas.proofs.Going.{goes_by, news_goes}
+use Rattle.pc_kcas.proofs.Holding.{at_most_one}
 use Rattle.pc_kcas.proofs.TakeWords.{if_met, if_none, met_since, different_since, last_since, met_longer, different_longer, met_in_turn, completed_since}
 use Rattle.pc_kcas.proofs.taking.take_word.Goals as goal
 
@@ -67,3 +69,12 @@ returns-in-None-clause-met g c = met_since (view c.args.pass.now) (view c.args.p
 
 pub returns-in-None-clause-numbers : goal.returns-in-None-clause-numbers
 returns-in-None-clause-numbers g c = last_since (view c.args.pass.now) (view c.args.pass.now) (view c.install-answer.new.pass) c.args.op c.args.place ([], refl) c.install-answer.result c.install-answer.ensures.numbers
+
+pub returns-in-Some-clause-most : goal.returns-in-Some-clause-most
+returns-in-Some-clause-most g c = let e = c.install-answer.ensures in let v = view c.args.pass.now in let u = view c.install-answer.new.pass in
+    took_again v u (view c.try_again-again.new.pass) c.args.completed c.in-Some.first c.in-Some.ensures.met.0
+    (at_most_one v u c.install-answer.result e.number e.last e.numbers) c.try_again-again.ensures.most
+
+pub returns-in-None-clause-most : goal.returns-in-None-clause-most
+returns-in-None-clause-most g c = let e = c.install-answer.ensures in let v = view c.args.pass.now in let u = view c.install-answer.new.pass in
+    took_once v u c.args.completed (at_most_one v u c.install-answer.result e.number e.last e.numbers)

@@ -1,10 +1,13 @@
 -- The completion, and then the install.
+use Rattle.std.proofs.Common.{arith}
 use Rattle.pc_rule_law.specs.Views.{held, removed}
 use Rattle.pc_rule.specs.Passes.{whole, view}
 use Rattle.pc_dcss.proofs.Staying.{noted_after, decided_after, on_held, on_decided}
 use Rattle.pc_dcss.specs.Installs.{IsNews}
+use Rattle.pc_kcas.proofs.Counted.{none_installed}
 use Rattle.pc_kcas.proofs.Evidence.{goes_then}
 use Rattle.pc_kcas.proofs.Going.{goes_by, goes_later, news_goes}
+use Rattle.pc_kcas.proofs.Holding.{at_most_one}
 use Rattle.pc_kcas.proofs.TakeWords.{if_met, met_since, different_since, last_since, free_later, place_later, another_met}
 use Rattle.pc_kcas.proofs.taking.try_again.Goals as goal
 
@@ -46,3 +49,7 @@ returns-clause-another g c = another_met (whole c.complete.new.pass) c.args.plac
 
 pub returns-clause-numbers : goal.returns-clause-numbers
 returns-clause-numbers g c = last_since (view c.args.pass.now) (view c.complete.new.pass) (view c.install.new.pass) c.args.op c.args.place c.complete.ensures.later.adds c.install.result c.install.ensures.numbers
+
+pub returns-clause-most : goal.returns-clause-most
+returns-clause-most g c = let e = c.install.ensures in let u = view c.complete.new.pass in
+    let same = none_installed (view c.args.pass.now) u c.complete.ensures.later in let one = at_most_one u (view c.install.new.pass) c.install.result e.number e.last e.numbers in omega arith

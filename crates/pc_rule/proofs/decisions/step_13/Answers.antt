@@ -12,6 +12,7 @@ use Rattle.pc_exchange_law.specs.Knowing.{after_draw}
 use Rattle.pc_exchange_law.specs.Ties.{code}
 use Rattle.pc_rule.proofs.Attempts.{KeepsOwn, drawn_or_not}
 use Rattle.pc_rule.proofs.Listing.{still_listed}
+use Rattle.pc_rule.proofs.OwnWords.{begin_still, words_still}
 use Rattle.pc_rule.proofs.Telling.{told_at}
 use Rattle.pc_rule.proofs.Walking.{path_still}
 use Rattle.pc_rule.proofs.decisions.step_13.Goals as goal
@@ -31,9 +32,11 @@ invariant_of-pass g c = let x : Whole = c.args.pass.now.seat.me.0 in let v : Vie
     record {
       live = t.1.0 ∙ c.args.pass.now.live;
       numbered = t.1.1 ∙ c.args.pass.now.numbered;
+      placed = begin_still _ _ _ _ t.1.4 c.args.pass.now.placed;
       counted = keeps.install ∙ c.args.pass.now.counted;
       tried = ap (λ (u : OwnAttempt). u.number) keeps.attempt ∙ c.args.pass.now.tried;
       pending = ap (λ (u : OwnAttempt). u.published) keeps.attempt ∙ c.args.pass.now.pending;
+      written = words_still _ _ _ (ap (λ (u : OwnAttempt). u.words) keeps.attempt) c.args.pass.now.written;
       holds_none = t.0 ∙ c.args.pass.now.holds_none;
       one_attempt = keeps.agree c.args.pass.now.one_attempt;
       few = c.args.pass.now.few;

@@ -1,5 +1,5 @@
 -- The step's lemma, at the address of the word.
-use Rattle.std.proofs.Common.{◌≡◌, ℕ, List, ◌∷◌, refl, sym, ap, ◌∙◌, subst, rules}
+use Rattle.std.proofs.Common.{ℕ, List, ◌∷◌, refl, sym, ap, ◌∙◌, subst, rules}
 use Rattle.pc_rule_law.specs.Board.{Size, Place, at_own, own_word, Inside}
 use Rattle.pc_rule_law.specs.Views.{View}
 use Rattle.pc_rule_law.specs.Tables.{size_of}
@@ -9,27 +9,30 @@ use Rattle.pc_exchange_law.specs.Wholes.{Whole}
 use Rattle.pc_exchange_law.proofs.WholeStores.{whole_store_word}
 use Rattle.pc_rule.specs.Attempts.{AgreeOnAttempt}
 use Rattle.pc_rule.proofs.Listing.{still_listed}
+use Rattle.pc_rule.proofs.OwnWords.{begin_still, words_still}
 use Rattle.pc_rule.proofs.Telling.{told_at}
 use Rattle.pc_rule.proofs.Walking.{path_still}
 use Rattle.pc_rule.proofs.exchanges.step_10.Goals as goal
 
 pub store-requires : goal.store-requires
-store-requires g c = let x : Whole = c.args.pass.now.seat.me.0 in let v : View = x.view in let z : Size = size_of c.args.board.now.table.shared.key in let p : Place = at_own v.seat (own_word c.args.place) in let n : c.args.pass.now.index ≡ v.seat = sym c.args.pass.now.numbered in let inside : Inside z p = (c.requires.pass.2, c.requires.place) in (
+store-requires g c = let x : Whole = c.args.pass.now.seat.me.0 in let v : View = x.view in let z : Size = size_of c.args.board.now.table.shared.key in let p : Place = at_own v.seat (own_word c.args.place) in let inside : Inside z p = (c.requires.pass.2, c.requires.place) in (
   c.requires.pass.0,
-  rw (c.own_word-word.ensures, n, c.args.board.now.wide.0) (within z p inside),
-  rw (c.own_word-word.ensures, n) (whole_store_word g.H.Shape.form z _ _ c.args.pass.now.seat.me c.args.place c.args.new c.requires.pass.1 c.args.pass.now.live (c.args.pass.now.one_attempt.busy ∙ c.requires.may.1) inside),
+  rw (c.word_of-word.ensures, c.args.board.now.wide.0) (within z p inside),
+  rw c.word_of-word.ensures (whole_store_word g.H.Shape.form z _ _ c.args.pass.now.seat.me c.args.place c.args.new c.requires.pass.1 c.args.pass.now.live (c.args.pass.now.one_attempt.busy ∙ c.requires.may.1) inside),
 )
 
 pub invariant_of-pass : goal.invariant_of-pass
-invariant_of-pass g c = let x : Whole = c.args.pass.now.seat.me.0 in let v : View = x.view in let z : Size = size_of c.args.board.now.table.shared.key in let p : Place = at_own v.seat (own_word c.args.place) in let n : c.args.pass.now.index ≡ v.seat = sym c.args.pass.now.numbered in let inside : Inside z p = (c.requires.pass.2, c.requires.place) in
+invariant_of-pass g c = let x : Whole = c.args.pass.now.seat.me.0 in let v : View = x.view in let z : Size = size_of c.args.board.now.table.shared.key in let p : Place = at_own v.seat (own_word c.args.place) in let inside : Inside z p = (c.requires.pass.2, c.requires.place) in
     let t = c.store.ensures.2 in let y : Whole = c.store.new.seat.me.0 in
-    let told = told_at v z c.own_word-word.result (StoredWord x c.args.new c.store.new.seat.me.0) p c.requires.pass.1 c.store.ensures.2.2 inside (rw (c.own_word-word.ensures, n) refl) refl in
+    let told = told_at v z c.word_of-word.result (StoredWord x c.args.new c.store.new.seat.me.0) p c.requires.pass.1 c.store.ensures.2.2 inside c.word_of-word.ensures refl in
     record {
       live = t.1.0 ∙ c.args.pass.now.live;
       numbered = t.1.1 ∙ c.args.pass.now.numbered;
-      counted = ap (λ (u : Whole). u.view.install.number) told ∙ c.args.pass.now.counted;
+      placed = begin_still _ _ _ _ t.1.4 c.args.pass.now.placed;
+      counted = ap (λ (u : Whole). u.view.install) told ∙ c.args.pass.now.counted;
       tried = ap (λ (u : Whole). u.view.attempt.number) told ∙ c.args.pass.now.tried;
       pending = ap (λ (u : Whole). u.view.attempt.published) told ∙ c.args.pass.now.pending;
+      written = words_still _ _ _ (ap (λ (u : Whole). u.view.attempt.words) told) (c.keep_word.ensures _ c.args.pass.now.written);
       holds_none = t.0 ∙ c.args.pass.now.holds_none;
       one_attempt = subst AgreeOnAttempt (sym told) record { number = c.args.pass.now.one_attempt.number; busy = c.args.pass.now.one_attempt.busy; words = ap (λ (l : List (ℕ × ℕ)). (c.args.place, c.args.new) ∷ l) c.args.pass.now.one_attempt.words };
       few = c.args.pass.now.few;
@@ -40,19 +43,19 @@ invariant_of-pass g c = let x : Whole = c.args.pass.now.seat.me.0 in let v : Vie
     }
 
 pub returns-clause-told : goal.returns-clause-told
-returns-clause-told g c = let x : Whole = c.args.pass.now.seat.me.0 in let v : View = x.view in let z : Size = size_of c.args.board.now.table.shared.key in let p : Place = at_own v.seat (own_word c.args.place) in let n : c.args.pass.now.index ≡ v.seat = sym c.args.pass.now.numbered in let inside : Inside z p = (c.requires.pass.2, c.requires.place) in let y : Whole = c.store.new.seat.me.0 in
-    let told = told_at v z c.own_word-word.result (StoredWord x c.args.new c.store.new.seat.me.0) p c.requires.pass.1 c.store.ensures.2.2 inside (rw (c.own_word-word.ensures, n) refl) refl in ap (λ (u : Whole). u.view) told
+returns-clause-told g c = let x : Whole = c.args.pass.now.seat.me.0 in let v : View = x.view in let z : Size = size_of c.args.board.now.table.shared.key in let p : Place = at_own v.seat (own_word c.args.place) in let inside : Inside z p = (c.requires.pass.2, c.requires.place) in let y : Whole = c.store.new.seat.me.0 in
+    let told = told_at v z c.word_of-word.result (StoredWord x c.args.new c.store.new.seat.me.0) p c.requires.pass.1 c.store.ensures.2.2 inside c.word_of-word.ensures refl in ap (λ (u : Whole). u.view) told
 
 pub returns-clause-learnt : goal.returns-clause-learnt
-returns-clause-learnt g c = let x : Whole = c.args.pass.now.seat.me.0 in let v : View = x.view in let z : Size = size_of c.args.board.now.table.shared.key in let p : Place = at_own v.seat (own_word c.args.place) in let n : c.args.pass.now.index ≡ v.seat = sym c.args.pass.now.numbered in let inside : Inside z p = (c.requires.pass.2, c.requires.place) in let y : Whole = c.store.new.seat.me.0 in
-    let told = told_at v z c.own_word-word.result (StoredWord x c.args.new c.store.new.seat.me.0) p c.requires.pass.1 c.store.ensures.2.2 inside (rw (c.own_word-word.ensures, n) refl) refl in ap (λ (u : Whole). u.knows) told
+returns-clause-learnt g c = let x : Whole = c.args.pass.now.seat.me.0 in let v : View = x.view in let z : Size = size_of c.args.board.now.table.shared.key in let p : Place = at_own v.seat (own_word c.args.place) in let inside : Inside z p = (c.requires.pass.2, c.requires.place) in let y : Whole = c.store.new.seat.me.0 in
+    let told = told_at v z c.word_of-word.result (StoredWord x c.args.new c.store.new.seat.me.0) p c.requires.pass.1 c.store.ensures.2.2 inside c.word_of-word.ensures refl in ap (λ (u : Whole). u.knows) told
 
 pub returns-clause-aim : goal.returns-clause-aim
-returns-clause-aim g c = let x : Whole = c.args.pass.now.seat.me.0 in let v : View = x.view in let z : Size = size_of c.args.board.now.table.shared.key in let p : Place = at_own v.seat (own_word c.args.place) in let n : c.args.pass.now.index ≡ v.seat = sym c.args.pass.now.numbered in let inside : Inside z p = (c.requires.pass.2, c.requires.place) in let y : Whole = c.store.new.seat.me.0 in
-    let told = told_at v z c.own_word-word.result (StoredWord x c.args.new c.store.new.seat.me.0) p c.requires.pass.1 c.store.ensures.2.2 inside (rw (c.own_word-word.ensures, n) refl) refl in ap (λ (u : Whole). u.aim) told
+returns-clause-aim g c = let x : Whole = c.args.pass.now.seat.me.0 in let v : View = x.view in let z : Size = size_of c.args.board.now.table.shared.key in let p : Place = at_own v.seat (own_word c.args.place) in let inside : Inside z p = (c.requires.pass.2, c.requires.place) in let y : Whole = c.store.new.seat.me.0 in
+    let told = told_at v z c.word_of-word.result (StoredWord x c.args.new c.store.new.seat.me.0) p c.requires.pass.1 c.store.ensures.2.2 inside c.word_of-word.ensures refl in ap (λ (u : Whole). u.aim) told
 
 pub returns-clause-pass : goal.returns-clause-pass
-returns-clause-pass g c = let x : Whole = c.args.pass.now.seat.me.0 in let v : View = x.view in let z : Size = size_of c.args.board.now.table.shared.key in let p : Place = at_own v.seat (own_word c.args.place) in let n : c.args.pass.now.index ≡ v.seat = sym c.args.pass.now.numbered in let inside : Inside z p = (c.requires.pass.2, c.requires.place) in
+returns-clause-pass g c = let x : Whole = c.args.pass.now.seat.me.0 in let v : View = x.view in let z : Size = size_of c.args.board.now.table.shared.key in let p : Place = at_own v.seat (own_word c.args.place) in let inside : Inside z p = (c.requires.pass.2, c.requires.place) in
     let t = c.store.ensures.2 in let y : Whole = c.store.new.seat.me.0 in
-    let told = told_at v z c.own_word-word.result (StoredWord x c.args.new c.store.new.seat.me.0) p c.requires.pass.1 c.store.ensures.2.2 inside (rw (c.own_word-word.ensures, n) refl) refl in
+    let told = told_at v z c.word_of-word.result (StoredWord x c.args.new c.store.new.seat.me.0) p c.requires.pass.1 c.store.ensures.2.2 inside c.word_of-word.ensures refl in
     (search rules, refl, (ap (λ (u : Whole). u.path) told, refl))

@@ -10,6 +10,7 @@ use Rattle.pc_exchange_law.proofs.WholeLooks.{whole_load_clock}
 use Rattle.pc_rule.proofs.Attempts.{agree_still}
 use Rattle.pc_exchange_law.specs.Passes.{PassKnows}
 use Rattle.pc_rule.proofs.Listing.{still_listed}
+use Rattle.pc_rule.proofs.OwnWords.{begin_still, words_still}
 use Rattle.pc_rule.proofs.Telling.{told_at}
 use Rattle.pc_rule.proofs.Walking.{path_still}
 use Rattle.pc_rule.proofs.exchanges.step_9.Goals as goal
@@ -28,9 +29,11 @@ invariant_of-pass g c = let x : Whole = c.args.pass.now.seat.me.0 in let v : Vie
     record {
       live = t.1.0 ∙ c.args.pass.now.live;
       numbered = t.1.1 ∙ c.args.pass.now.numbered;
-      counted = ap (λ (u : View). u.install.number) told.0.0 ∙ c.args.pass.now.counted;
+      placed = begin_still _ _ _ _ t.1.4 c.args.pass.now.placed;
+      counted = ap (λ (u : View). u.install) told.0.0 ∙ c.args.pass.now.counted;
       tried = ap (λ (u : View). u.attempt.number) told.0.0 ∙ c.args.pass.now.tried;
       pending = ap (λ (u : View). u.attempt.published) told.0.0 ∙ c.args.pass.now.pending;
+      written = words_still _ _ _ (ap (λ (u : View). u.attempt.words) told.0.0) c.args.pass.now.written;
       holds_none = t.0 ∙ c.args.pass.now.holds_none;
       one_attempt = agree_still x y (ap (λ (u : View). u.attempt) told.0.0) (ap (λ (k : PassKnows). k.own) told.1.noted) c.args.pass.now.one_attempt;
       few = c.args.pass.now.few;

@@ -11,6 +11,7 @@ use Rattle.pc_rule.specs.declared.visit.Visit.{Visit}
 use Rattle.pc_rule.specs.Walking.{path_with}
 use Rattle.pc_rule.proofs.Attempts.{agree_still}
 use Rattle.pc_rule.proofs.Listing.{still_listed}
+use Rattle.pc_rule.proofs.OwnWords.{begin_still, words_still}
 use Rattle.pc_rule.proofs.Telling.{told_at}
 use Rattle.pc_rule.proofs.Walking.{path_moved, stamp_with, draw_stays}
 use Rattle.pc_rule.proofs.reads.step_20.Goals as goal
@@ -30,9 +31,11 @@ invariant_of-pass g c = let x : Whole = c.args.pass.now.seat.me.0 in let v : Vie
     record {
       live = t.1.0 ∙ c.args.pass.now.live;
       numbered = t.1.1 ∙ c.args.pass.now.numbered;
-      counted = ap (λ (u : View). u.install.number) same ∙ c.args.pass.now.counted;
+      placed = begin_still _ _ _ _ t.1.4 c.args.pass.now.placed;
+      counted = ap (λ (u : View). u.install) same ∙ c.args.pass.now.counted;
       tried = ap (λ (u : View). u.attempt.number) same ∙ c.args.pass.now.tried;
       pending = ap (λ (u : View). u.attempt.published) same ∙ c.args.pass.now.pending;
+      written = words_still _ _ _ (ap (λ (u : View). u.attempt.words) same) c.args.pass.now.written;
       holds_none = t.0 ∙ c.args.pass.now.holds_none;
       one_attempt = agree_still x y (ap (λ (u : View). u.attempt) same) own c.args.pass.now.one_attempt;
       few = c.args.pass.now.few;

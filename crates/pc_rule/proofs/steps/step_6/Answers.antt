@@ -11,6 +11,7 @@ use Rattle.pc_rule.proofs.Attempts.{agree_still, swapped_own}
 use mathlib.Core.Logic.{dite}
 use native.Mathlib.Decide.{ℕ_discrete}
 use Rattle.pc_rule.proofs.Listing.{still_listed}
+use Rattle.pc_rule.proofs.OwnWords.{begin_still, words_still}
 use Rattle.pc_rule.proofs.Telling.{told_at}
 use Rattle.pc_rule.proofs.Walking.{path_still}
 use Rattle.pc_rule.proofs.steps.step_6.Goals as goal
@@ -26,14 +27,16 @@ pub invariant_of-pass : goal.invariant_of-pass
 invariant_of-pass g c = let x : Whole = c.args.pass.now.seat.me.0 in let v : View = x.view in let z : Size = size_of c.args.board.now.table.shared.key in let p : Place = at_cell c.args.node c.args.field in let inside : Inside z p = c.requires.inside in
     let t = c.compare_exchange.ensures.2 in let y : Whole = c.compare_exchange.new.seat.me.0 in
     let told = told_at v z c.cell_word-word.result (WholePlaced x c.args.old c.args.new c.compare_exchange.result c.compare_exchange.new.seat.me.0) p c.requires.pass.1 c.compare_exchange.ensures.2.2 inside c.cell_word-word.ensures in
-    let same : y.view.install.number ≡ v.install.number = dite (ℕ_discrete c.compare_exchange.result c.args.old) (λ e. ap (λ (u : View). u.install.number) (told.0.hit e)) (λ ne. ap (λ (u : View). u.install.number) (told.0.miss ne)) in
+    let same : y.view.install ≡ v.install = dite (ℕ_discrete c.compare_exchange.result c.args.old) (λ e. ap (λ (u : View). u.install) (told.0.hit e)) (λ ne. ap (λ (u : View). u.install) (told.0.miss ne)) in
     let mine : y.view.attempt ≡ v.attempt = dite (ℕ_discrete c.compare_exchange.result c.args.old) (λ e. ap (λ (u : View). u.attempt) (told.0.hit e)) (λ ne. ap (λ (u : View). u.attempt) (told.0.miss ne)) in
     record {
       live = t.1.0 ∙ c.args.pass.now.live;
       numbered = t.1.1 ∙ c.args.pass.now.numbered;
+      placed = begin_still _ _ _ _ t.1.4 c.args.pass.now.placed;
       counted = same ∙ c.args.pass.now.counted;
       tried = ap (λ (u : OwnAttempt). u.number) mine ∙ c.args.pass.now.tried;
       pending = ap (λ (u : OwnAttempt). u.published) mine ∙ c.args.pass.now.pending;
+      written = words_still _ _ _ (ap (λ (u : OwnAttempt). u.words) mine) c.args.pass.now.written;
       holds_none = t.0 ∙ c.args.pass.now.holds_none;
       one_attempt = agree_still x y mine (swapped_own x c.args.node c.args.field c.args.old c.args.new c.compare_exchange.result y told.1) c.args.pass.now.one_attempt;
       few = c.args.pass.now.few;
@@ -63,6 +66,6 @@ pub returns-clause-pass : goal.returns-clause-pass
 returns-clause-pass g c = let x : Whole = c.args.pass.now.seat.me.0 in let v : View = x.view in let z : Size = size_of c.args.board.now.table.shared.key in let p : Place = at_cell c.args.node c.args.field in let inside : Inside z p = c.requires.inside in
     let t = c.compare_exchange.ensures.2 in let y : Whole = c.compare_exchange.new.seat.me.0 in
     let told = told_at v z c.cell_word-word.result (WholePlaced x c.args.old c.args.new c.compare_exchange.result c.compare_exchange.new.seat.me.0) p c.requires.pass.1 c.compare_exchange.ensures.2.2 inside c.cell_word-word.ensures in
-    let same : y.view.install.number ≡ v.install.number = dite (ℕ_discrete c.compare_exchange.result c.args.old) (λ e. ap (λ (u : View). u.install.number) (told.0.hit e)) (λ ne. ap (λ (u : View). u.install.number) (told.0.miss ne)) in
+    let same : y.view.install ≡ v.install = dite (ℕ_discrete c.compare_exchange.result c.args.old) (λ e. ap (λ (u : View). u.install) (told.0.hit e)) (λ ne. ap (λ (u : View). u.install) (told.0.miss ne)) in
     let mine : y.view.attempt ≡ v.attempt = dite (ℕ_discrete c.compare_exchange.result c.args.old) (λ e. ap (λ (u : View). u.attempt) (told.0.hit e)) (λ ne. ap (λ (u : View). u.attempt) (told.0.miss ne)) in
     (search rules, refl, (told.1.path, refl))

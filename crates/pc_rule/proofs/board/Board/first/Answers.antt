@@ -1,4 +1,4 @@
-use Rattle.std.proofs.Common.{rules, ◌≡◌, ℕ, ◌+◌, ◌<◌, ◌≤◌, List, [], length, vec_capacity, sym, ap, ◌∙◌, subst, arith}
+use Rattle.std.proofs.Common.{rules, ◌≡◌, ℕ, ◌+◌, ◌<◌, ◌≤◌, List, [], length, vec_capacity, refl, sym, ap, ◌∙◌, subst, arith}
 use mathlib.Core.Option.{some, some-ne-none}
 use lib.ListN.{get_elem?, get_or}
 use Rattle.pc_rule_law.specs.declared.opening.Opening.{Opening}
@@ -12,7 +12,9 @@ use Rattle.pc_rule.specs.declared.share.Share.{Share}
 use Rattle.pc_rule.proofs.Listing.{none_listed}
 use Rattle.pc_rule.proofs.Starting.{element}
 use Rattle.pc_rule.proofs.Walking.{new_holds}
+use Rattle.pc_rule.proofs.OwnWords.{begins, begin_still, words_still}
 use Rattle.pc_rule.specs.Starting.{starting_board}
+use Rattle.pc_rule.specs.Stored.{install_of}
 use Rattle.pc_rule.proofs.board.Board.first.Goals as goal
 
 pub of_words-requires : goal.of_words-requires
@@ -55,3 +57,18 @@ invariant_of-pass-clause-walking g c = let made = c.in_ok-table.ensures in
     let is : c.in_ok-table.seat.me.0 ≡ first_whole (size_of c.args.opening.now) = ap (λ m. m.0) made.4 in
     new_holds _ _ _ c.in_ok-visits.ensures.none (ap (λ (x : Whole). x.path.begun) is)
     (let room = c.in_ok-visits.ensures.room in subst (λ (z : Size). z.slots + 1 ≤ vec_capacity c.in_ok-visits.visits) (sym (ap (λ (x : Whole). x.view.size) is)) room)
+
+pub invariant_of-pass-clause-counted : goal.invariant_of-pass-clause-counted
+invariant_of-pass-clause-counted g c = let made = c.in_ok-table.ensures in
+    let is : c.in_ok-table.seat.me.0 ≡ first_whole (size_of c.args.opening.now) = ap (λ m. m.0) made.4 in
+    ap (λ (x : Whole). x.view.install) is ∙ ap install_of (sym c.install_start.ensures)
+
+pub invariant_of-pass-clause-written : goal.invariant_of-pass-clause-written
+invariant_of-pass-clause-written g c = let made = c.in_ok-table.ensures in
+    let is : c.in_ok-table.seat.me.0 ≡ first_whole (size_of c.args.opening.now) = ap (λ m. m.0) made.4 in
+    words_still _ _ _ (ap (λ (x : Whole). x.view.attempt.words) is) c.in_ok-stored.ensures
+
+pub invariant_of-pass-clause-placed : goal.invariant_of-pass-clause-placed
+invariant_of-pass-clause-placed g c = let made = c.in_ok-table.ensures in let z : Size = size_of c.args.opening.now in
+    let is : c.in_ok-table.seat.me.0 ≡ first_whole z = ap (λ m. m.0) made.4 in
+    begin_still _ _ _ _ (ap (λ (x : Whole). x.view.size) is) (begins z c.own_place.result 0 (c.own_place.ensures z refl))
