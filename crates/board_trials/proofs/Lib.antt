@@ -1,4 +1,6 @@
 pub mod OwnSteps
+pub mod Begun
+pub mod FirstThree
 pub mod FirstTwo
 pub mod Loosely
 pub mod Published

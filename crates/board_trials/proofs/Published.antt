@@ -1,5 +1,5 @@
 -- What is known of a pass that publishes two words, and of an install that it met.
-use Rattle.std.proofs.Common.{◌≡◌, ℕ, suc, List, [], ◌∷◌, ◌++◌, sym, ap, subst, arith}
+use Rattle.std.proofs.Common.{◌≡◌, ℕ, suc, List, [], ◌∷◌, ◌++◌, refl, sym, ap, subst, arith}
 use Rattle.std.specs.Prelude.{OnOk, OnErr}
 use Rattle.std.specs.List.{All}
 use Rattle.std.specs.List.Sorted.{IsPermutation}
@@ -11,18 +11,22 @@ use lib.ListN.{get_elem?}
 use Rattle.pc_model.specs.declared.shape.Shape.{Ghosts}
 use Rattle.pc_model.specs.declared.numbers.Numbers.{Numbers}
 use Rattle.pc_rule_law.specs.Conditions.{IsFree, CanWrite}
-use Rattle.pc_rule_law.specs.Views.{View, OwnAttempt}
+use Rattle.pc_rule_law.specs.Past.{Has}
+use Rattle.pc_rule_law.specs.Views.{Note, View, OwnAttempt, held}
+use Rattle.pc_exchange_law.specs.Wholes.{Whole}
 use Rattle.pc_rule.specs.Passes.{view, listed}
 use Rattle.pc_rule.specs.Shares.{NoneTried}
 use Rattle.pc_rule.specs.declared.board.Pass.{Pass}
 use Rattle.pc_rule.specs.declared.opening.Place.{Place}
 use Rattle.pc_rule.specs.declared.refs.Ref.{Ref}
-use Rattle.pc_rule.specs.declared.refs.RefKind.TheVariants.{Install}
+use Rattle.pc_rule.specs.declared.refs.RefKind.{RefKind}
+use Rattle.pc_rule.specs.declared.refs.RefKind.TheVariants.{Install, Exchange}
 use Rattle.pc_dcss.specs.declared.installed.Installed.{Installed}
 use Rattle.pc_dcss.specs.declared.installed.Installed.TheVariants.{Held, Decided, Differs, Met, Numbers as OutOfNumbers}
-use Rattle.pc_dcss.specs.Installs.{HasMet, IsMet, IfDiffers, IfMet}
+use Rattle.pc_dcss.specs.Installs.{HasMet, IsMet, HasCome, met_note, IfDiffers, IfMet}
 use Rattle.pc_dcss.proofs.Meeting.{met_install}
 use Rattle.pc_kcas.specs.Exchanges.{OnlyPublished}
+use Rattle.pc_kcas.specs.Readings.{HasComeTo}
 use Rattle.pc_kcas.proofs.Attempts.{free_published}
 
 all_holds : (P : Place → Type 0) (fore rest : List Place) (p : Place) → All P (fore ++ (p ∷ rest)) → P p
@@ -46,6 +50,22 @@ met_known v w op place Decided met = tt
 met_known v w op place (Differs x) met = tt
 met_known v w op place (Met r) met = λ kind. met_install v w op r place met kind
 met_known v w op place (OutOfNumbers n) met = tt
+
+-- an exchange that was met may be helped
+pub come_met : (v : View) (y : Whole) (op : Ref) (place : Place) (i : Installed) (r : Ref) → i ≡ Met r → r.kind ≡ Exchange
+    → IfMet i (IsMet v y.view op place) → IfMet i (HasCome y.knows) → HasComeTo y r
+come_met v y op place i r is kind met came =
+    let m : IsMet v y.view op place r = subst (λ (a : Installed). IfMet a (IsMet v y.view op place)) is met in
+    let c : HasCome y.knows r = subst (λ (a : Installed). IfMet a (HasCome y.knows)) is came in
+    let told : y.view.notes ≡ held r.seat r.number place.node place.field ∷ v.notes =
+    subst (λ (k : RefKind). y.view.notes ≡ met_note k r.seat r.number place.node place.field ∷ v.notes) kind m.0 in (
+      (
+        place.node,
+        place.field,
+        subst (λ (l : List Note). Has l (held r.seat r.number place.node place.field)) (sym told) (0, refl),
+      ),
+      c kind,
+    )
 
 -- what is known where a word differs may be another fact
 pub differs_so : (X Y : Type 0) (i : Installed) → (X → Y) → IfDiffers i (λ x. X) → IfDiffers i (λ x. Y)

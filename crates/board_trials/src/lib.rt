@@ -11,7 +11,11 @@ mod ends;
 #[cfg(test)]
 mod exchanges;
 #[cfg(test)]
+mod helps;
+#[cfg(test)]
 mod meetings;
+#[cfg(test)]
+mod paths;
 #[cfg(test)]
 mod rows;
 #[cfg(test)]

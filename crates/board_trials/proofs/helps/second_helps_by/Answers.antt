@@ -1,0 +1,34 @@
+-- The first two passes make the calls, and the others none.
+use Rattle.std.proofs.Common.{set, subst}
+use Rattle.pc_rule.proofs.Calls.{all_but_one}
+use Rattle.pc_rule.specs.Shares.{AreAll}
+use Rattle.board_trials.proofs.FirstTwo.{first_at, second_at, second_after, both_set}
+use Rattle.board_trials.proofs.Published.{may_list}
+use Rattle.board_trials.proofs.helps.second_helps_by.Goals as goal
+
+pub second_helps-requires-clause-passes : goal.second_helps-requires-clause-passes
+second_helps-requires-clause-passes c = let s = c.split_at_mut-front in let l = c.args.passes.now in (
+  (c.requires.all.order 0 _ (first_at l s.result.0.now s.result.1.now s.ensures.value s.ensures.front_len c.requires.two c.index-front-0.result)).0,
+  (c.requires.all.order 1 _ (second_at l s.result.0.now s.result.1.now s.ensures.value s.ensures.front_len c.requires.two c.index-back-0.result)).0,
+)
+
+pub second_helps-requires-clause-free : goal.second_helps-requires-clause-free
+second_helps-requires-clause-free c = let s = c.split_at_mut-front in let l = c.args.passes.now in (
+  (c.requires.all.order 0 _ (first_at l s.result.0.now s.result.1.now s.ensures.value s.ensures.front_len c.requires.two c.index-front-0.result)).2,
+  (c.requires.all.order 1 _ (second_at l s.result.0.now s.result.1.now s.ensures.value s.ensures.front_len c.requires.two c.index-back-0.result)).2,
+)
+
+pub second_helps-requires-clause-one : goal.second_helps-requires-clause-one
+second_helps-requires-clause-one c = let s = c.split_at_mut-front in
+    may_list c.args.passes.now c.requires.open 0 _ (first_at c.args.passes.now s.result.0.now s.result.1.now s.ensures.value s.ensures.front_len c.requires.two c.index-front-0.result)
+
+pub second_helps-requires-clause-two : goal.second_helps-requires-clause-two
+second_helps-requires-clause-two c = let s = c.split_at_mut-front in
+    may_list c.args.passes.now c.requires.open 1 _ (second_at c.args.passes.now s.result.0.now s.result.1.now s.ensures.value s.ensures.front_len c.requires.two c.index-back-0.result)
+
+pub returns : goal.returns
+returns c = let s = c.split_at_mut-front in let l = c.args.passes.now in let b = c.args.board.now in let p = c.second_helps.new.first in let q = c.second_helps.new.second in let e = c.second_helps.ensures in
+    subst (λ new. AreAll b new) (both_set l s.result.0.now s.result.1.now s.ensures.value s.ensures.front_len c.requires.two p q)
+    (all_but_one (set l 0 p) 1 _ q (second_after l s.result.0.now s.result.1.now s.ensures.value s.ensures.front_len c.requires.two p c.index-back-0.result) b
+    (all_but_one l 0 _ p (first_at l s.result.0.now s.result.1.now s.ensures.value s.ensures.front_len c.requires.two c.index-front-0.result) b c.requires.all e.same.0 e.free.0)
+    e.same.1 e.free.1)

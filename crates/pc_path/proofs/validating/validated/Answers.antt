@@ -1,0 +1,19 @@
+-- The stamp, and the checks.
+use Rattle.std.proofs.Common.{List, subst}
+use Rattle.pc_rule.specs.declared.visit.Visit.{Visit}
+use Rattle.pc_rule.specs.Passes.{whole, visits, board_size}
+use Rattle.pc_kcas.proofs.Evidence.{goes_then}
+use Rattle.pc_path.specs.Losses.{IsBlockedAt, IfBlocked}
+use Rattle.pc_path.proofs.Losing.{blocked_since}
+use Rattle.pc_path.proofs.validating.validated.Goals as goal
+
+pub returns-in-Err-check_visits-clause-goes_on : goal.returns-in-Err-check_visits-clause-goes_on
+returns-in-Err-check_visits-clause-goes_on g c = goes_then (whole c.args.pass.now) (whole c.draw_stamp.new.pass) (whole c.check_visits.new.pass) c.draw_stamp.ensures.goes_on c.check_visits.ensures.goes_on
+
+pub returns-in-Err-check_visits-clause-blocked : goal.returns-in-Err-check_visits-clause-blocked
+returns-in-Err-check_visits-clause-blocked g c = let links = (board_size c.args.board.now).seats in let x = whole c.args.pass.now in let y = whole c.check_visits.new.pass in
+    subst (λ (l : List Visit). IfBlocked c.in-Err-check_visits.lost (IsBlockedAt links x.view y l)) c.draw_stamp.ensures.visits
+    (blocked_since links x.view (whole c.draw_stamp.new.pass).view y (visits c.draw_stamp.new.pass) c.in-Err-check_visits.lost c.draw_stamp.ensures.goes_on.adds c.in-Err-check_visits.ensures.blocked)
+
+pub returns-in-Ok-check_visits-clause-goes_on : goal.returns-in-Ok-check_visits-clause-goes_on
+returns-in-Ok-check_visits-clause-goes_on g c = goes_then (whole c.args.pass.now) (whole c.draw_stamp.new.pass) (whole c.check_visits.new.pass) c.draw_stamp.ensures.goes_on c.check_visits.ensures.goes_on

@@ -1,0 +1,53 @@
+-- The load tells a number, or a reference that is made to leave the word.
+use Rattle.std.proofs.Common.{rules, ◌∙◌}
+use Rattle.pc_model.specs.declared.cell.Field.TheVariants.{Version}
+use Rattle.pc_words.specs.Words.{kind}
+use Rattle.pc_rule.specs.Passes.{whole, visits, path}
+use Rattle.pc_kcas.proofs.Evidence.{goes_then}
+use Rattle.pc_path.proofs.Found.{cell_goes, cell_free, in_the_way}
+use Rattle.pc_path.proofs.Paths.{reference_visited, reference_visits, path_kept, visits_kept}
+use Rattle.pc_path.proofs.visiting.find_version.Goals as goal
+
+pub returns-in-Ok-clause-goes_on : goal.returns-in-Ok-clause-goes_on
+returns-in-Ok-clause-goes_on g c = let x0 = whole c.args.pass.now in let x = whole c.loop-version.pass in let y = whole c.step_5_visit-found.new.pass in
+    goes_then x0 x y c.loop-version.invariant.goes (cell_goes x y c.args.node Version c.step_5_visit-found.result c.step_5_visit-found.ensures.told)
+
+pub returns-in-Ok-clause-free : goal.returns-in-Ok-clause-free
+returns-in-Ok-clause-free g c = let x = whole c.loop-version.pass in let y = whole c.step_5_visit-found.new.pass in
+    cell_free x y c.args.node Version c.step_5_visit-found.result c.step_5_visit-found.ensures.told c.loop-version.invariant.free
+
+pub make_way-requires-clause-met : goal.make_way-requires-clause-met
+make_way-requires-clause-met g c = λ _ _. let x0 = whole c.args.pass.now in let x = whole c.loop-version.pass in let y = whole c.step_5_visit-found.new.pass in
+    let inv = c.loop-version.invariant in (
+      x0.view,
+      c.args.node,
+      Version,
+      in_the_way x y c.args.node Version c.step_5_visit-found.result c.step_5_visit-found.ensures.told c.in-Err.reference c.in-Err.ensures.reference
+          x0.view c.loop-version.met inv.goes.adds inv.free inv.made,
+    )
+
+pub returns-in_err-met-in-Err-clause-goes_on : goal.returns-in_err-met-in-Err-clause-goes_on
+returns-in_err-met-in-Err-clause-goes_on g c = let x0 = whole c.args.pass.now in let x = whole c.loop-version.pass in let y = whole c.step_5_visit-found.new.pass in
+    let z = whole c.make_way.new.pass in
+    goes_then x0 y z (goes_then x0 x y c.loop-version.invariant.goes (cell_goes x y c.args.node Version c.step_5_visit-found.result c.step_5_visit-found.ensures.told)) c.make_way.ensures.goes_on
+
+pub returns-in_err-met-in-Err-clause-busy : goal.returns-in_err-met-in-Err-clause-busy
+returns-in_err-met-in-Err-clause-busy g c = let x0 = whole c.args.pass.now in let x = whole c.loop-version.pass in let y = whole c.step_5_visit-found.new.pass in
+    let inv = c.loop-version.invariant in
+    let busy = c.in_err-met-in-Err.ensures.busy x0.view c.args.node Version
+    (in_the_way x y c.args.node Version c.step_5_visit-found.result c.step_5_visit-found.ensures.told c.in-Err.reference c.in-Err.ensures.reference
+    x0.view c.loop-version.met inv.goes.adds inv.free inv.made) in search rules
+
+pub loop-version-preserved : goal.loop-version-preserved
+loop-version-preserved g c = let x0 = whole c.args.pass.now in let x = whole c.loop-version.pass in let y = whole c.step_5_visit-found.new.pass in
+    let z = whole c.make_way.new.pass in let inv = c.loop-version.invariant in let s = c.step_5_visit-found.ensures in let r = c.in-Err.reference in record {
+      seated = search rules;
+      path = path_kept c.step_5_visit-found.new.pass c.make_way.new.pass c.make_way.ensures.pass.2 ∙ (s.path
+          ∙ (reference_visited (path c.loop-version.pass) c.args.node (kind c.step_5_visit-found.result) r.kind r.seat r.number c.in-Err.ensures.reference ∙ inv.path));
+      visits = visits_kept c.step_5_visit-found.new.pass c.make_way.new.pass c.make_way.ensures.pass.2 ∙ (s.visits
+          ∙ (reference_visits (visits c.loop-version.pass) c.args.node (kind c.step_5_visit-found.result) r.kind r.seat r.number c.in-Err.ensures.reference ∙ inv.visits));
+      goes = goes_then x0 y z (goes_then x0 x y inv.goes (cell_goes x y c.args.node Version c.step_5_visit-found.result s.told)) c.make_way.ensures.goes_on;
+      free = c.make_way.ensures.free;
+      made = c.in_ok-met-in-Err.ensures.made x0.view c.args.node Version
+          (in_the_way x y c.args.node Version c.step_5_visit-found.result s.told r c.in-Err.ensures.reference x0.view c.loop-version.met inv.goes.adds inv.free inv.made);
+    }

@@ -1,0 +1,21 @@
+-- What was met in the word so far left it; of each kind once.
+use Rattle.std.proofs.Common.{◌≡◌}
+use Rattle.pc_model.specs.declared.cell.Field.TheVariants.{Version}
+use Rattle.pc_rule_law.specs.Conditions.{IsFree}
+use Rattle.pc_rule.specs.Passes.{whole, view, visits, path, StaysSeated}
+use Rattle.pc_kcas.specs.Obstacles.{GoesOn}
+use Rattle.pc_path.specs.Ways.{HasMadeWay, kinds_left}
+use Rattle.pc_path.proofs.visiting.find_version.Given as goal
+
+abbrev pub invariant-loop-version : goal.invariant-loop-version
+invariant-loop-version g l = record {
+  seated : StaysSeated l.initial.pass l.pass;
+  path : path l.pass ≡ path l.initial.pass;
+  visits : visits l.pass ≡ visits l.initial.pass;
+  goes : GoesOn (whole l.initial.pass) (whole l.pass);
+  free : IsFree (view l.pass);
+  made : HasMadeWay (view l.initial.pass) (whole l.pass) l.node Version l.met;
+}
+
+abbrev pub decreases-loop-version : goal.decreases-loop-version
+decreases-loop-version g l = kinds_left l.met

@@ -1,0 +1,5 @@
+pub mod Checks
+pub mod Faults
+pub mod Finds
+pub mod Losses
+pub mod Ways

@@ -1,0 +1,24 @@
+//! Operations along a path: a pass begins an operation (`beginning`), reads words (`reading`), visits nodes (`visiting`), and
+//! makes one validated read of all that (`checking`, `validating`). In a word in which the reference of another pass stands, at
+//! most one install is completed and one exchange is helped (`way`), so no call waits for another pass. Its steps are those of
+//! `pc_rule`, and the completions and helps of `pc_dcss` and `pc_kcas`, so the rule of the board holds between any two of them.
+#![tactic(auto)]
+
+mod beginning;
+mod checking;
+mod fault;
+mod lost;
+mod met;
+mod moved;
+mod reading;
+mod validating;
+mod visiting;
+mod way;
+
+pub use beginning::{end, start};
+pub use fault::{ReadFault, VisitFault};
+pub use lost::Lost;
+pub use moved::Moved;
+pub use reading::read;
+pub use validating::validate;
+pub use visiting::visit;
