@@ -1,12 +1,14 @@
 //! Threads make exchanges of 2 to 6 words on few nodes, on a board in plain Rust, and what they took down is checked.
 //!
-//!   exchange_stress [--threads T] [--exchanges N] [--nodes K] [--stalls S] [--fault NAME] [--clock C] [--toggle] [--steps]
+//!   exchange_stress [--threads T] [--exchanges N] [--nodes K] [--stalls S] [--fault NAME] [--clock C] [--toggle] [--steps] [--unchecked]
 //!
+//! --nodes K    exchanges are of 1 to 3 of K nodes, K from 3 on; at 1 they are of one node, as those of the crate exchange_race
 //! --stalls S   one step in S is followed by a stall, and some exchanges are left half done for a while, or given up
 //! --fault NAME plants a fault in the protocol: see `FAULTS`
 //! --clock C    the clock opens at C; 17179869183 is its end
 //! --toggle     words go from 0 to 1 and back without versions, so an old value may come again
 //! --steps      counts the steps of exchanges by one pass alone
+//! --unchecked  checks nothing, so that the time of the whole run is that of its threads
 //!
 //! Prints one line, and ends with status 1 where the check fails.
 #[allow(dead_code)]
@@ -56,9 +58,9 @@ fn run_round<V: Variant>(workers: &mut [Worker<V>], exchanges: u64, stuck: &Atom
     })
 }
 
-fn check_round<V: Variant>(workers: &mut [Worker<V>], cells: &mut [u64], raw: &Raw) -> Result<(), String> {
+fn check_round<V: Variant>(workers: &mut [Worker<V>], cells: &mut [u64], raw: &Raw, unchecked: bool) -> Result<(), String> {
     let records: Vec<Record> = workers.iter_mut().map(|worker| std::mem::take(&mut worker.record)).collect();
-    let checked = check(cells, &records, raw);
+    let checked = if unchecked { Ok(()) } else { check(cells, &records, raw) };
     for (worker, mut record) in workers.iter_mut().zip(records) {
         record.clear();
         worker.record = record;
@@ -77,7 +79,7 @@ fn run<V: Variant>(plan: &Plan) -> Report {
         let returned = run_round(&mut workers, round.next_multiple_of(u64::from(plan.threads)), &stuck);
         took += from.elapsed();
         left -= round;
-        checked = check_round(&mut workers, &mut cells, &raw_of(&board, plan));
+        checked = check_round(&mut workers, &mut cells, &raw_of(&board, plan), plan.unchecked);
         if !returned {
             checked = Err(String::from("a thread panicked"));
         } else if stuck.load(Ordering::Relaxed) && checked.is_ok() {
@@ -140,19 +142,29 @@ fn fault_named(name: &str) -> Option<Fault> {
 }
 
 fn plan_of(words: &[String]) -> Option<Plan> {
-    let mut plan =
-        Plan { threads: 4, exchanges: 20_000, nodes: 4, stalls: 0, clock: 1, fault: Fault::None, toggles: false, counts: false };
+    let mut plan = Plan {
+        threads: 4,
+        exchanges: 20_000,
+        nodes: 4,
+        stalls: 0,
+        clock: 1,
+        fault: Fault::None,
+        toggles: false,
+        counts: false,
+        unchecked: false,
+    };
     let mut words = words.iter();
     while let Some(word) = words.next() {
         match word.as_str() {
             "--threads" => plan.threads = words.next()?.parse().ok().filter(|n| (1..=32).contains(n))?,
             "--exchanges" => plan.exchanges = words.next()?.parse().ok()?,
-            "--nodes" => plan.nodes = words.next()?.parse().ok().filter(|n| (3..=1000).contains(n))?,
+            "--nodes" => plan.nodes = words.next()?.parse().ok().filter(|n| *n == 1 || (3..=1000).contains(n))?,
             "--stalls" => plan.stalls = words.next()?.parse().ok()?,
             "--clock" => plan.clock = words.next()?.parse().ok()?,
             "--fault" => plan.fault = fault_named(words.next()?)?,
             "--toggle" => plan.toggles = true,
             "--steps" => plan.counts = true,
+            "--unchecked" => plan.unchecked = true,
             _ => return None,
         }
     }
@@ -167,6 +179,7 @@ fn print_report(plan: &Plan, report: &Report) {
     let Ends { won, changed, blocked, withdrawn, numbers, .. } = report.ends;
     let (all, seconds) = (report.ends.all(), report.took.as_secs_f64());
     let verdict = match &report.checked {
+        Ok(()) if plan.unchecked => String::from("nothing is checked"),
         Ok(()) => String::from("the check holds"),
         Err(wrong) => format!("THE CHECK FAILS: {wrong}"),
     };

@@ -19,6 +19,7 @@ pub struct Plan {
     pub fault: Fault,
     pub toggles: bool,
     pub counts: bool,
+    pub unchecked: bool,
 }
 
 /// How many exchanges came to which end.
@@ -104,6 +105,9 @@ impl<'b, V: Variant> Worker<'b, V> {
         if self.plan.toggles {
             return self.list_toggles(count as usize);
         }
+        if self.plan.nodes == 1 {
+            return self.list_one_node(count as usize);
+        }
         for i in 0..count / 2 {
             let node = loop {
                 let node = 1 + self.chance.below(self.plan.nodes) as usize;
@@ -115,13 +119,29 @@ impl<'b, V: Variant> Worker<'b, V> {
             self.listed.push(Change { word: 8 * node, old: version, new: version + 2 });
             let fields = if i == 0 { 1 + count as usize % 2 } else { 1 };
             for word in (8 * node + 2..).take(fields) {
-                self.written += 1;
-                let new = (u64::from(self.pass.seat.number) + 1) << 40 | self.written;
+                let new = self.new_number();
                 let old = self.pass.read(word)?;
                 self.listed.push(Change { word, old, new });
             }
         }
         Some(())
+    }
+
+    // The version of the one node, and others of its words in turn. The last of them is a link, which names the node or none.
+    fn list_one_node(&mut self, count: usize) -> Option<()> {
+        let version = self.pass.read(8)?;
+        self.listed.push(Change { word: 8, old: version, new: version + 2 });
+        for word in [10, 14, 15, 9, 11].into_iter().take(count - 1) {
+            let old = self.pass.read(word)?;
+            let new = if word == 11 { 1 - old } else { self.new_number() };
+            self.listed.push(Change { word, old, new });
+        }
+        Some(())
+    }
+
+    fn new_number(&mut self) -> u64 {
+        self.written += 1;
+        (u64::from(self.pass.seat.number) + 1) << 40 | self.written
     }
 
     fn list_toggles(&mut self, count: usize) -> Option<()> {
