@@ -12,13 +12,15 @@ use Rattle.pc_rule_law.specs.Past.{Attempt, change, Describes, IsFormed}
 use Rattle.pc_rule_law.specs.Plays.{after_write, after_publish}
 use Rattle.pc_rule_law.specs.Seats.{new_view}
 use Rattle.pc_rule_law.specs.Views.{View, word_in}
-use Rattle.pc_rule_law.proofs.Lists.{all_one}
+use Rattle.pc_rule_law.proofs.Lists.{all_one, none_has}
 use Rattle.pc_model.specs.Forms.{Form, Fits}
 use Rattle.pc_history.specs.Footprints.{IsAmong, RaisesVersionOf}
 use Rattle.pc_protocol.specs.Notes.{clock_was}
 use Rattle.pc_protocol.specs.Seeing.{ChangesVersion}
+use Rattle.pc_exchange_law.proofs.SeenStamps.{none_above, above_more}
 use Rattle.pc_exchange_law.specs.ExchangeConditions.{KnowsOld, was_opened, KnowsBasis}
 use Rattle.pc_exchange_law.specs.Passes.{PassKnows}
+use Rattle.pc_exchange_law.specs.Paths.{new_path}
 use Rattle.pc_exchange_law.specs.Ties.{exchange_of}
 use Rattle.pc_rule.specs.Conditions.{MayPublish}
 use Rattle.pc_rule.proofs.Attempts.{describes_too}
@@ -34,7 +36,7 @@ abbrev raise : Changed
 raise = change 1 Version 0 2
 
 abbrev to_raise : Attempt
-to_raise = record { mode = 0; changes = raise ∷ []; visits = [] }
+to_raise = record { mode = 0; changes = raise ∷ []; visits = []; reads = [] }
 
 the_change : (i : ℕ) (x : Changed) → get_elem? to_raise.changes i ≡ some x → i ≡ 0
 the_change zero x at = refl
@@ -44,7 +46,7 @@ formed : IsFormed 1 to_raise
 formed = record {
   few = omega arith;
   few_visits = omega arith;
-  no_visits = refl;
+  visited = λ x has. absurd (none_has x has);
   inside = all_one (λ x. ((1 ≤ x.node) × (x.node ≤ 2)) × (x.old < 2 ^ 62) × (x.new < 2 ^ 62)) raise
       ((omega arith, omega arith), omega arith, omega arith);
   apart = λ i j x y at_i at_j _ _. let e = the_change i x at_i in let d = the_change j y at_j in omega arith;
@@ -99,7 +101,7 @@ basing a (inl is) = subst
 basing a (inr none) = absurd none
 
 -- where the exchange fits, the pass may publish it as attempt 4
-may_publish : (form : Form) → Fits form 1 (exchange_of to_raise) [] → MayPublish form two knowing (packed (record { number = 4; stage = Undecided }))
+may_publish : (form : Form) → Fits form 1 (exchange_of to_raise) [] → MayPublish form two (record { view = stored; knows = knowing; aim = (0, 0); path = new_path }) (packed (record { number = 4; stage = Undecided }))
 may_publish form fits = (
   to_raise,
   5,
@@ -109,9 +111,10 @@ may_publish form fits = (
     rests = refl;
     room = omega arith;
     clock = (0, refl);
+    above = above_more (clock_was 5) [] 5 (omega arith) (none_above 5);
     formed = formed;
     raises = raising;
-    no_visits = refl;
+    seen = inl (refl, (refl, refl));
     described = describes_too 1 to_raise stored.attempt.words described;
     fits = fits;
     based = basing;

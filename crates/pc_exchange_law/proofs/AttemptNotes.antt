@@ -3,11 +3,11 @@ use Rattle.std.proofs.Common.{◌≡◌, ◌≢◌, ℕ, ◌+◌, ◌*◌, ◌<�
 use mathlib.Core.Option.{some}
 use lib.ListN.{get_elem?}
 use Rattle.pc_model.specs.declared.cell.Field.{Field}
-use Rattle.pc_model.specs.Exchanges.{Changed}
+use Rattle.pc_model.specs.Exchanges.{Visited, Changed}
 use Rattle.pc_words.specs.declared.word.WordKind.{WordKind}
 use Rattle.pc_words.specs.declared.word.WordKind.TheVariants.{Plain, Install, Exchange}
 use Rattle.pc_rule_law.specs.Board.{Board, place_number}
-use Rattle.pc_rule_law.specs.Past.{Has, Past, change, Describes}
+use Rattle.pc_rule_law.specs.Past.{Has, Past, change, Describes, visits_begin}
 use Rattle.pc_rule_law.specs.Stages.{DecidedBelow}
 use Rattle.pc_rule_law.proofs.Lists.{below_length, element_at}
 use Rattle.pc_rule_law.proofs.Places.{one_word}
@@ -15,7 +15,7 @@ use Rattle.pc_protocol.specs.Histories.{withdrawn, aborted, History}
 use Rattle.pc_exchange_law.specs.Ties.{code}
 use Rattle.pc_exchange_law.specs.Attempts.{Scripts, AreScripts, OwnAttempt, OwnsAttempt, AttemptNote, came_to, loaded_word}
 use Rattle.pc_exchange_law.specs.Attempts.{listed_word, calm, calm_but, IsCalm, IsCalmBut, IsTrueAttemptNote}
-use Rattle.pc_exchange_law.specs.Attempts.{KnowsWord, KnowsEntry, KnowsPlaces}
+use Rattle.pc_exchange_law.specs.Attempts.{KnowsWord, KnowsEntry, KnowsVisit, KnowsPlaces}
 use Rattle.pc_exchange_law.specs.AttemptLaws.{AttemptsGrow, LeavesAttempts, AttemptNotesStay, AttemptsAreKnown}
 
 module _ (b : Board) (t : Past) (w : Scripts) (b' : Board) (t' : Past) (w' : Scripts) (g : AttemptsGrow b t w b' t' w') where
@@ -103,6 +103,22 @@ module _ (slots : ℕ) (b : Board) (t : Past) (w : Scripts) (h : History) (seat 
         (i, subst (λ (y : Changed). get_elem? (t.attempt p a).changes i ≡ some y) same found.1),
       )
 
+  known_visit : (p a i n v : ℕ) → KnowsVisit slots notes seat o p a i n v
+      → (a ≤ (b.status p).number) × (get_elem? (t.attempt p a).visits i ≡ some (record { node = n; version = v }))
+  known_visit p a i n v knows =
+      let d : Describes slots (t.attempt p a) (w p a) = scripts.describe p a in
+      let count : w p a 2 ≡ length (t.attempt p a).visits = d.visits in
+      let known_count = known_word p a 2 knows.count knows.counted in
+      let is_c : w p a 2 ≡ knows.count = known_count.1 in
+      let below : i < knows.count = knows.below in
+      let found = element_at (t.attempt p a).visits i (omega arith) in
+      let x = found.0 in let words = d.each_visit i x found.1 in
+      let is_node : x.node ≡ n = sym words.0 ∙ (known_word p a (visits_begin slots + 2 * i) n knows.node_word).1 in
+      let is_version : x.version ≡ v = sym words.1
+      ∙ (known_word p a (visits_begin slots + (1 + 2 * i)) v knows.version_word).1 in
+      let same : x ≡ record { node = n; version = v } = λ j. record { node = is_node j; version = is_version j } in
+      (known_count.0, subst (λ (y : Visited). get_elem? (t.attempt p a).visits i ≡ some y) same found.1)
+
   known_places : (p a : ℕ) (k : KnowsPlaces notes seat o p a) (x : Changed) → Has (t.attempt p a).changes x
       → (i : ℕ) × (below : i < k.count) × ((k.each i below).0 ≡ x.node) × ((k.each i below).1 ≡ x.field)
   known_places p a k x has =
@@ -129,6 +145,8 @@ module _ (slots : ℕ) (b : Board) (t : Past) (w : Scripts) (h : History) (seat 
   attempts_are_known = record {
     word = known_word;
     entry = known_entry;
+    visit = known_visit;
+    visits = λ p a c counted. sym (scripts.describe p a).visits ∙ (known_word p a 2 c counted).1;
     places = known_places;
     settles = λ p place x loaded busy. (
       omega arith,

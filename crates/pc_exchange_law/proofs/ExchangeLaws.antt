@@ -24,6 +24,7 @@ use Rattle.pc_exchange_law.proofs.AttemptNotes.{attempt_note_stays}
 use Rattle.pc_exchange_law.proofs.AttemptSteps.{steps_keep_attempts, steps_leave_attempts}
 use Rattle.pc_exchange_law.proofs.KnowingSteps.{own_same}
 use Rattle.pc_exchange_law.proofs.OwnAttempts.{steps_keep_scripts}
+use Rattle.pc_exchange_law.proofs.SeenPaths.{paths_still}
 use Rattle.pc_exchange_law.proofs.TieDraws.{look_leads}
 use Rattle.pc_exchange_law.proofs.TieWords.{word_leads}
 use Rattle.pc_exchange_law.proofs.Worlds.{Goes}
@@ -67,6 +68,7 @@ module _ (form : Form) (z : Size) (id : ℕ) (b : Board) (t : Past) (w : Scripts
           fits = λ p a small published. subst (λ (x : Attempt). Fits form z.slots (exchange_of x) (world.charged p a))
               (sym (same.attempts p a)) (world.fits p a small published);
           based = world.based;
+          seen = world.seen;
         };
         keeps = led.keeps;
         attempts = grows;
@@ -104,6 +106,7 @@ module _ (form : Form) (z : Size) (id : ℕ) (b : Board) (t : Past) (w : Scripts
           charged = world.charged;
           fits = world.fits;
           based = bases_still h h' led.keeps (λ x is. is) world.based;
+          seen = paths_still h h' led.keeps (λ x is. is) world.seen;
         };
         keeps = led.keeps;
         attempts = grows;
@@ -128,8 +131,8 @@ exchange_steps_go_on form z id b t w h late v k few shared world own noted known
   words = word_comes form z id b t w h late k few (let lt = own.seated.1 in omega arith) world known;
   stores = λ place x may. comes form z id b t w h late _ _ _ _ _ _
       (store_step form z few id b t w h late shared world v own noted k known place x may);
-  publishes = λ x c keys may. comes form z id b t w h late _ _ _ _ _ _
-      (publish_step form z few id b t w h late shared world v own noted k known x c keys may);
+  publishes = λ path x c keys may. comes form z id b t w h late _ _ _ _ _ _
+      (publish_step form z few id b t w h late shared world v own noted k known path x c keys may);
   draws = λ p a may. let step = draw_step form z few id b t w h late shared world v own noted k known p a may in (
     step.0,
     subst (λ (s : ℕ). Comes form z id b t w h late (with_next_stamp b) t w (draw h (for_exchange (code p a))) step.0

@@ -1,48 +1,57 @@
 -- The steps of an exchange, from what the pass knows: each leads to the world afterwards, and to what the pass knows
 -- then. What is left for a table is which word the step is made on, and what is found where it misses.
-use Rattle.std.proofs.Common.{◌≡◌, ◌≢◌, ℕ, ◌+◌, ◌^◌, ◌<◌, ◌≤◌, ◌⊎◌, inl, inr, ⊎_elim, Bool, true, false, List, [], ◌∷◌, None, length, refl, sym, ◌∙◌, subst, arith}
+use Rattle.std.proofs.Common.{◌≡◌, ◌≢◌, ℕ, ◌+◌, ◌^◌, ◌<◌, ◌≤◌, ◌⊎◌, inl, inr, ⊎_elim, Bool, true, false, List, None, suc, length, refl, sym, ap, ◌∙◌, subst, arith}
+use mathlib.Core.Option.{some, some-injective}
+use lib.ListN.{get_elem?}
 use Rattle.pc_model.specs.declared.cell.Field.{Field}
-use Rattle.pc_model.specs.Exchanges.{Changed}
+use Rattle.pc_model.specs.declared.cell.Field.TheVariants.{Version}
+use Rattle.pc_model.specs.Exchanges.{Visited, Changed, Exchange as PathExchange}
 use Rattle.pc_model.specs.Forms.{Form, IsSound}
 use Rattle.pc_words.specs.declared.word.WordKind.TheVariants.{Plain, Exchange}
 use Rattle.pc_words.specs.declared.status.Stage.TheVariants.{Idle, Undecided, Succeeded, Withdrawn}
 use Rattle.pc_words.specs.Statuses.{StageInRange}
+use Rattle.pc_history.specs.Footprints.{IsAmong}
 use Rattle.pc_rule_law.specs.Board.{Size, Board, put2}
 use Rattle.pc_rule_law.specs.Past.{Has, Attempt, Past, change, Describes}
 use Rattle.pc_rule_law.specs.Stages.{IsIdle, IsOpen, DecidedBelow}
 use Rattle.pc_rule_law.specs.Views.{View, held, clean, IsClean, NoteHolds, AllNotes}
 use Rattle.pc_rule_law.specs.Rule.{Own, Shared}
+use Rattle.pc_rule_law.proofs.Lists.{below_length}
 use Rattle.pc_rule_law.proofs.Stages.{open_not_idle}
 use Rattle.pc_rule_law.proofs.WordMoves.{WordMoves}
 use Rattle.pc_rule_law.proofs.Outcomes as Outcomes
 use Rattle.pc_protocol.specs.Histories.{for_exchange, for_read, Cause, withdrawn, ended, changed, locked, Stage, absent, undecided, committed, aborted}
-use Rattle.pc_protocol.specs.Histories.{History, value_by}
-use Rattle.pc_protocol.specs.Notes.{clock_was, drew, verdict, outdated}
+use Rattle.pc_protocol.specs.Histories.{History, moments, IsPublished, IsDecided, value_by}
+use Rattle.pc_protocol.specs.Notes.{value, by, clock_was, visited, saw, looked, drew, verdict, rival, outdated, IsTrueNote}
+use Rattle.pc_protocol.specs.Seeing.{ChangesVersion, Covers}
+use Rattle.pc_protocol.specs.Serving.{HasPassedByNotes}
 use Rattle.pc_protocol.specs.Steps.{draw, publish, commit, CanCommit, abort, CanAbort, refer}
-use Rattle.pc_protocol.proofs.Stages.{same_cause}
+use Rattle.pc_protocol.proofs.Stages.{same_cause, decided_is_published, committed_is_published}
+use Rattle.pc_protocol.proofs.Loads.{loads_tell}
 use Rattle.pc_exchange_law.specs.Ties.{code, exchange_of}
 use Rattle.pc_exchange_law.specs.Changes.{with_word, with_status, with_next_stamp, with_values, at_stage, stage_by}
-use Rattle.pc_exchange_law.specs.Attempts.{Scripts, OwnsAttempt}
+use Rattle.pc_exchange_law.specs.Attempts.{Scripts, OwnsAttempt, KnowsEntry, KnowsVisit}
 use Rattle.pc_exchange_law.specs.AttemptSteps.{with_own_word, with_script}
 use Rattle.pc_exchange_law.specs.Passes.{PassKnows, IsKnown}
+use Rattle.pc_exchange_law.specs.Paths.{Path, read_of}
 use Rattle.pc_exchange_law.specs.Knowing.{after_own_store, after_publication, after_draw, after_refusal, after_decision}
 use Rattle.pc_exchange_law.specs.Knowing.{after_withdrawal, after_clearing}
-use Rattle.pc_exchange_law.specs.ExchangeConditions.{MayStoreOwn, MayPublish, MayDrawFor, MaySucceed, MayFail}
+use Rattle.pc_exchange_law.specs.ExchangeConditions.{MayStoreOwn, MayPublish, MayDrawFor, MaySucceed, MayFail, was_told, is_passed}
+use Rattle.pc_exchange_law.specs.ExchangeConditions.{KnowsPassed, is_changed, was_found, was_settled, KnowsChecked, KnowsCovered}
 use Rattle.pc_exchange_law.specs.ExchangeConditions.{MayTakeReference, MayClear}
 use Rattle.pc_exchange_law.specs.Worlds.{World}
 use Rattle.pc_exchange_law.proofs.AttemptNotes.{attempts_are_known}
+use Rattle.pc_exchange_law.proofs.ChangeLists.{has_among}
 use Rattle.pc_exchange_law.proofs.Knowing.{decided_on_board}
 use Rattle.pc_exchange_law.proofs.KnowingSteps.{store_known, publication_known, draw_known, refusal_known, decision_known}
 use Rattle.pc_exchange_law.proofs.KnowingSteps.{withdrawal_known, clearing_known, unchanged_known}
 use Rattle.pc_exchange_law.proofs.OldNumbers.{basis_is}
+use Rattle.pc_exchange_law.proofs.SeenPaths.{visits_seen}
 use Rattle.pc_exchange_law.proofs.Serving.{notes_draw, notes_take, notes_clear}
-use Rattle.pc_exchange_law.proofs.TieDecisions.{may_commit, may_withdraw, may_end, may_fail}
+use Rattle.pc_exchange_law.proofs.TieDecisions.{may_commit, may_withdraw, may_end, may_fail, may_pass, may_lock}
+use Rattle.pc_exchange_law.proofs.TieTelling.{one_change, board_tells}
 use Rattle.pc_exchange_law.proofs.Worlds.{Goes, store_goes, word_goes, draw_goes, other_draw_goes, late_after}
 use Rattle.pc_exchange_law.proofs.WorldStatuses.{is_busy, publish_goes, success_goes, failure_goes, clearing_goes}
-
-no_element : {X : Type 0} (xs : List X) → length xs ≡ 0 → xs ≡ []
-no_element [] e = refl
-no_element (x ∷ xs) e = absurd (omega arith)
 
 one_of_two : (st : Stage) (old new : ℕ) → (value_by st old new ≡ old) ⊎ (value_by st old new ≡ new)
 one_of_two absent old new = inl refl
@@ -74,13 +83,13 @@ module _ (form : Form) (z : Size) (few : z.seats ≤ 32) (id : ℕ) (b : Board) 
       let goes = store_goes form z id b t w h late few shared world place x (known.own.resting rests) in
       (goes, store_known form z id b t w h late k known seated place x rests goes)
 
-  pub publish_step : (x : Attempt) (c : ℕ) (keys : List ℕ) → MayPublish form z k x c keys
+  pub publish_step : (path : Path) (x : Attempt) (c : ℕ) (keys : List ℕ) → MayPublish form z k path x c keys
       → let a : ℕ = (b.status id).number + 1 in
       let b' = with_status b id (record { number = a; stage = Undecided }) in
       let t' = with_values t t.cells t.plain (put2 t.attempt id a x) (put2 t.words id a (b.word id)) in
       let w' = with_script w id a (b.word id) in let h' = publish h (code id a) (exchange_of x) c in
       Goes form z id b t w h late b' t' w' h' late × IsKnown b' t' w' h' late id (after_publication k (code id a) (exchange_of x) c)
-  publish_step x c keys may =
+  publish_step path x c keys may =
       let a : ℕ = (b.status id).number + 1 in
       let idle = known.own.resting may.rests in
       let room : a < 2 ^ 28 = let r = may.room in let same = number_is in omega arith in
@@ -89,7 +98,7 @@ module _ (form : Form) (z : Size) (few : z.seats ≤ 32) (id : ℕ) (b : Board) 
       let described : Describes z.slots x (b.word id) = subst (Describes z.slots x)
       (λ i place. sym (known.own.words place) i) may.described in
       let goes = publish_goes form z id b t w h late shared world seated c x keys idle room past may.formed may.raises
-      may.no_visits described may.fits (basis_is z h k world.rule world.opened known.told x may.based) in (
+      (visits_seen h k path c x may.seen (λ of. known.told (saw c (read_of path)) of.seen)) described may.fits (basis_is z h k world.rule world.opened known.told x may.based) in (
         goes,
         publication_known form z id b t w h late k known seated
             (with_status b id (record { number = a; stage = Undecided }))
@@ -127,6 +136,71 @@ module _ (form : Form) (z : Size) (few : z.seats ≤ 32) (id : ℕ) (b : Board) 
       (subst (λ (i : ℕ). IsIdle (b.status i).stage) (sym e) (known.own.resting rests))))
       (true_or_false k.own.busy)
 
+  -- what is known of the attempt's visits and changes is so
+  visit_is : (p a i n x : ℕ) → KnowsVisit v.size.slots k.noted v.seat k.own p a i n x
+      → (a ≤ (b.status p).number) × (get_elem? (t.attempt p a).visits i ≡ some (record { node = n; version = x }))
+  visit_is p a i n x visit = (attempts_are_known z.slots b t w h v.seat k.own k.noted world.scripts my_attempt known.noted).visit
+      p a i n x (subst (λ (u : Size). KnowsVisit u.slots k.noted v.seat k.own p a i n x) own.sized visit)
+
+  entry_is : (p a i n : ℕ) (f : Field) (old new : ℕ) → KnowsEntry k.noted v.seat k.own p a i n f old new
+      → (a ≤ (b.status p).number) × Has (t.attempt p a).changes (change n f old new)
+  entry_is = (attempts_are_known z.slots b t w h v.seat k.own k.noted world.scripts my_attempt known.noted).entry
+
+  entry_changes : (p a i n old new : ℕ) → KnowsEntry k.noted v.seat k.own p a i n Version old new
+      → ChangesVersion (exchange_of (t.attempt p a)) n old
+  entry_changes p a i n old new entry = record {
+    change = change n Version old new;
+    among = has_among (t.attempt p a).changes (change n Version old new) (entry_is p a i n Version old new entry).1;
+    is_of = (refl, refl);
+    old = refl;
+  }
+
+  -- a visit that is known to have passed the check has passed it
+  passed : (p a s n x : ℕ) → KnowsPassed v k p a s n x
+      → ChangesVersion (exchange_of (t.attempt p a)) n x ⊎ HasPassedByNotes h s (record { node = n; version = x })
+  passed p a s n x (is_changed j new entry) = inl (entry_changes p a j n x new entry)
+  passed p a s n x (was_found u has le) = inr (value u, known.told (looked s n (value u)) has, le)
+  passed p a s n x (was_settled q e j old new st small has decided entry le) =
+      let noted_verdict = known.told (verdict (code q e) st) decided in
+      let published : IsPublished (h.stage (code q e)) = subst IsPublished (sym noted_verdict.0) (decided_is_published st noted_verdict.1) in
+      inr (
+        by (code q e),
+        known.told (looked s n (by (code q e))) has,
+        (
+          st,
+          noted_verdict,
+          λ c among is_of. subst (λ (y : Changed). value_by st y.old y.new ≤ x)
+              (one_change b t h world.rule world.tied q e small published (change n Version old new) c
+              (entry_is q e j n Version old new entry).1 among is_of) le,
+        ),
+      )
+
+  all_checked : (p a s : ℕ) → KnowsChecked v k p a s → (y : Visited) → Has (t.attempt p a).visits y
+      → ChangesVersion (exchange_of (t.attempt p a)) y.node y.version ⊎ HasPassedByNotes h s y
+  all_checked p a s checked y has =
+      let count : length (t.attempt p a).visits ≡ checked.count =
+      (attempts_are_known z.slots b t w h v.seat k.own k.noted world.scripts my_attempt known.noted).visits p a checked.count
+      checked.counted in
+      let below : has.0 < length (t.attempt p a).visits = below_length (t.attempt p a).visits has.0 y has.1 in
+      let one = checked.each has.0 (omega arith) in
+      let there = (visit_is p a has.0 one.0 one.1 one.2).1 in
+      subst (λ (u : Visited). ChangesVersion (exchange_of (t.attempt p a)) u.node u.version ⊎ HasPassedByNotes h s u)
+      (some-injective (record { node = one.0; version = one.1 }) y (sym there ∙ has.1)) (passed p a s one.0 one.1 one.3)
+
+  visits_it : (p a i n x : ℕ) → KnowsVisit v.size.slots k.noted v.seat k.own p a i n x → Covers (exchange_of (t.attempt p a)) n x
+  visits_it p a i n x visit = inl (record {
+    visit = record { node = n; version = x };
+    among = has_among (t.attempt p a).visits (record { node = n; version = x }) (i, (visit_is p a i n x visit).1);
+    node = refl;
+    version = refl;
+  })
+
+  covered : (p a n : ℕ) → KnowsCovered v k p a n → (x : ℕ) × Covers (exchange_of (t.attempt p a)) n x
+  covered p a n known_so = ⊎_elim
+      (λ visit. (visit.1, visits_it p a visit.0 n visit.1 visit.2))
+      (λ entry. (entry.1, inr (entry_changes p a entry.0 n entry.1 entry.2 entry.3)))
+      known_so
+
   pub success_step : (p s : ℕ) → p < 64 → IsOpen (b.status p).stage → MaySucceed v k p (b.status p).number s
       → let y : ℕ = code p (b.status p).number in let h' = commit h y s in
       let b' = with_status b p (at_stage b p (Succeeded s)) in
@@ -134,13 +208,8 @@ module _ (form : Form) (z : Size) (few : z.seats ≤ 32) (id : ℕ) (b : Board) 
       Goes form z id b t w h late b' t' w h' late × IsKnown b' t' w h' late id (after_decision k y (committed s))
   success_step p s small pending may =
       let a : ℕ = (b.status p).number in let y : ℕ = code p a in
-      let no_visits : (t.attempt p a).visits ≡ [] =
-      let count = (attempts_are_known z.slots b t w h v.seat k.own k.noted world.scripts my_attempt known.noted).word p a
-      2 0 may.no_visits in
-      let described : Describes z.slots (t.attempt p a) (w p a) = world.scripts.describe p a in
-      no_element (t.attempt p a).visits (sym described.visits ∙ count.1) in
-      let can : CanCommit h y s = may_commit b t h world.tied p a small (refl, pending) s no_visits
-      (known.told (drew y s) may.drawn) in
+      let can : CanCommit h y s = may_commit b t h world.tied p a small (refl, pending) world.rule s
+      (known.told (drew y s) may.drawn) (all_checked p a s may.checked) in
       let goes = success_goes form z id b t w h late shared world p small s may.low can in (
         goes,
         decision_known form z id b t w h late k known seated p small (Succeeded s) (committed s)
@@ -148,25 +217,67 @@ module _ (form : Form) (z : Size) (few : z.seats ≤ 32) (id : ℕ) (b : Board) 
             (λ e. (own_is_busy p pending e, λ is. absurd (let clash : committed s ≡ aborted withdrawn = is in cc))),
       )
 
-  not_of_own_accord : (p a : ℕ) (cause : Cause) → MayFail k p a cause → cause ≢ withdrawn
+  not_of_own_accord : (p a : ℕ) (cause : Cause) → MayFail v k p a cause → cause ≢ withdrawn
   not_of_own_accord p a withdrawn may is = may
   not_of_own_accord p a ended may is = absurd (let clash : ended ≡ withdrawn = is in cc)
   not_of_own_accord p a (changed n) may is = absurd (let clash : changed n ≡ withdrawn = is in cc)
-  not_of_own_accord p a (locked n q) may is = may
+  not_of_own_accord p a (locked n q) may is = absurd (let clash : locked n q ≡ withdrawn = is in cc)
+
+  -- the version in which the reference to an attempt was seen is worth so much, as that was decided
+  worth_by : (q e n old new : ℕ) (st : Stage) → q < 64 → Has v.notes (held q e n Version) → h.stage (code q e) ≡ st → IsDecided st
+      → Has (t.attempt q e).changes (change n Version old new)
+      → (at : ℕ) × IsTrueNote h (visited n (value_by st old new) at)
+  worth_by q e n old new absent small seen is done has = absurd done
+  worth_by q e n old new undecided small seen is done has = absurd done
+  worth_by q e n old new (committed s) small seen is done has =
+      let same : h.op (code q e) ≡ exchange_of (t.attempt q e) = world.tied.exchanges q e small
+      (committed_is_published (h.stage (code q e)) s is) in (
+        suc s,
+        (loads_tell h world.rule).won_version (code q e) s n (change n Version old new) is
+            (subst (λ (y : PathExchange). IsAmong (change n Version old new) y.changes) (sym same)
+            (has_among (t.attempt q e).changes (change n Version old new) has)) (refl, refl),
+      )
+  worth_by q e n old new (aborted cause) small seen is done has =
+      let published : IsPublished (h.stage (code q e)) = subst IsPublished (sym is) tt in
+      let same : h.op (code q e) ≡ exchange_of (t.attempt q e) = world.tied.exchanges q e small published in
+      let there = (noted (held q e n Version) seen).0.2 in
+      let told = (board_tells b t h world.rule world.tied).version n in
+      let same_entry : change n Version there.0 there.1 ≡ change n Version old new =
+      one_change b t h world.rule world.tied q e small published (change n Version there.0 there.1) (change n Version old new) there.2
+      (subst (λ (y : PathExchange). IsAmong (change n Version old new) y.changes) (sym same)
+      (has_among (t.attempt q e).changes (change n Version old new) has)) (refl, refl) in
+      let low : there.0 ≤ t.plain n Version = there.3 refl in
+      let old_is : there.0 ≡ old = ap (λ (y : Changed). y.old) same_entry in
+      let high : t.plain n Version ≤ moments h b.clock n Version = told.1 in
+      (b.clock, (told.0, (let goal : old ≤ moments h b.clock n Version = omega arith in goal)))
+
+  worth_was : (q e i n old new : ℕ) (st : Stage) → q < 64 → Has v.notes (held q e n Version) → Has k.told (verdict (code q e) st)
+      → KnowsEntry k.noted v.seat k.own q e i n Version old new
+      → (at : ℕ) × IsTrueNote h (visited n (value_by st old new) at)
+  worth_was q e i n old new st small seen decided entry =
+      let is = known.told (verdict (code q e) st) decided in
+      worth_by q e n old new st small seen is.0 is.1 (entry_is q e i n Version old new entry).1
 
   -- a failure that isn't of the pass's own accord
-  may_abort : (p : ℕ) → p < 64 → IsOpen (b.status p).stage → (cause : Cause) → MayFail k p (b.status p).number cause
+  may_abort : (p : ℕ) → p < 64 → IsOpen (b.status p).stage → (cause : Cause) → MayFail v k p (b.status p).number cause
       → CanAbort h (code p (b.status p).number) cause
   may_abort p small pending withdrawn may = absurd may
   may_abort p small pending ended may = may_end b t h world.tied p (b.status p).number small (refl, pending)
       (let seen : may.0 ≤ h.clock = known.told (clock_was may.0) may.1 in let last = may.2 in
       let same : h.clock ≡ b.clock = world.tied.clock in omega arith)
-  may_abort p small pending (changed n) may = may_fail b t h world.tied p (b.status p).number small (refl, pending) n
-      (known.told (outdated (code p (b.status p).number) n) may)
-  may_abort p small pending (locked n q) may = absurd may
+  may_abort p small pending (changed n) (was_told told) = may_fail b t h world.tied p (b.status p).number small (refl, pending) n
+      (known.told (outdated (code p (b.status p).number) n) told)
+  may_abort p small pending (changed n) (is_passed q e j i x old new st low seen decided entry visit below) =
+      let a : ℕ = (b.status p).number in let worth = worth_was q e j n old new st low seen decided entry in
+      may_pass b t h world.tied p a small (refl, pending) world.rule n x (value_by st old new) worth.0 (visits_it p a i n x visit)
+      worth.1 below
+  may_abort p small pending (locked n q) may =
+      let a : ℕ = (b.status p).number in let there = covered p a n may.4 in
+      may_lock b t h world.tied p a small (refl, pending) world.rule n there.0 q may.0 there.1 may.3
+      (known.told (drew (code p a) may.0) may.1) (known.told (rival q n may.0) may.2)
 
   pub failure_step : (p : ℕ) (cause : Cause) → p < 64 → IsOpen (b.status p).stage → StageInRange (stage_by cause)
-      → MayFail k p (b.status p).number cause
+      → MayFail v k p (b.status p).number cause
       → let y : ℕ = code p (b.status p).number in let b' = with_status b p (at_stage b p (stage_by cause)) in
       Goes form z id b t w h late b' t w (abort h y cause) late
       × IsKnown b' t w (abort h y cause) late id (after_decision k y (aborted cause))

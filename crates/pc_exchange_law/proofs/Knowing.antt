@@ -1,6 +1,7 @@
 -- What a pass knows after each kind of step is so.
 use Rattle.std.proofs.Common.{◌≡◌, ℕ, ◌+◌, ◌<◌, ◌≤◌, ⊎_elim, Bool, ◌==◌, true, List, [], ◌∷◌, ◌++◌, refl, sym, ◌∙◌, subst, arith}
 use Rattle.std.proofs.lemmas.Bool.{cases_lt}
+use Rattle.pc_model.specs.Exchanges.{Exchange as PathExchange}
 use Rattle.pc_words.specs.declared.status.Stage.{Stage as StatusStage}
 use Rattle.pc_words.specs.declared.status.Stage.TheVariants.{Idle, Undecided, Succeeded, Withdrawn, Changed as ChangedNode, Locked}
 use Rattle.pc_words.specs.declared.status.Status.{Status}
@@ -11,7 +12,9 @@ use Rattle.pc_rule_law.proofs.Lists.{has_first, has_later, has_left, has_right, 
 use Rattle.pc_rule_law.proofs.Stages.{open_or_not}
 use Rattle.pc_protocol.specs.Histories.{Stage, History, IsDecided}
 use Rattle.pc_protocol.specs.Rules.{Rule}
-use Rattle.pc_protocol.specs.Notes.{Note, clock_was, published, verdict, rival, outdated, IsTrueNote}
+use Rattle.pc_protocol.specs.Notes.{Note, clock_was, saw, published, verdict, rival, outdated, IsTrueNote}
+use Rattle.pc_protocol.specs.Telling.{IsNoted}
+use Rattle.pc_protocol.proofs.Loads.{loads_tell}
 use Rattle.pc_protocol.proofs.Stages.{absent_not_decided, decided_not_undecided}
 use Rattle.pc_exchange_law.specs.Ties.{code, last_stamp, IsStageOf, IsTied}
 use Rattle.pc_exchange_law.specs.Attempts.{Scripts, AreScripts, AttemptNote, came_to, loaded_word, listed_word, calm, calm_but}
@@ -232,11 +235,13 @@ module _ (slots : ℕ) (b : Board) (t : Past) (w : Scripts) (h : History) (late 
         (idle_or_not s.stage)
 
   -- ---- the clock
-  pub clock_seen : (seats : ℕ) → ClockIsBounded seats b.clock late → Rule h → IsTied b t h → (early : Bool)
-      → (early ≡ true → b.clock < last_stamp) → IsKnown b t w h late id (after_clock k b.clock early)
-  clock_seen seats bounded rule tied early is = record {
+  pub clock_seen : (seats : ℕ) → ClockIsBounded seats b.clock late → Rule h → IsTied b t h → (e : PathExchange) (early : Bool)
+      → IsNoted h e → (early ≡ true → b.clock < last_stamp) → IsKnown b t w h late id (after_clock k b.clock e early)
+  clock_seen seats bounded rule tied e early is_noted is = record {
     own = known.own;
-    ready = λ e. clock_ends.ready seats b.clock late bounded (is e) id;
+    ready = λ says. clock_ends.ready seats b.clock late bounded (is says) id;
     noted = known.noted;
-    told = all_more (IsTrueNote h) (clock_was b.clock) k.told (board_tells b t h rule tied).clock known.told;
+    told = all_more (IsTrueNote h) (clock_was b.clock) (saw b.clock e ∷ k.told) (board_tells b t h rule tied).clock
+        (all_more (IsTrueNote h) (saw b.clock e) k.told
+        (subst (λ (c : ℕ). IsTrueNote h (saw c e)) tied.clock ((loads_tell h rule).clock e is_noted)) known.told);
   }

@@ -8,19 +8,20 @@ use Rattle.pc_words.specs.declared.status.Stage.TheVariants.{Idle, Undecided, Wi
 use Rattle.pc_history.specs.Updates.{updated}
 use Rattle.pc_history.proofs.Updates.{updated_here, updated_other}
 use Rattle.pc_rule_law.specs.Board.{Size, Board}
-use Rattle.pc_rule_law.specs.Past.{Past}
+use Rattle.pc_rule_law.specs.Past.{Has, Past}
 use Rattle.pc_rule_law.specs.Stages.{IsIdle}
-use Rattle.pc_rule_law.proofs.Lists.{all_one, none_has}
-use Rattle.pc_protocol.specs.Histories.{for_exchange, for_read, withdrawn, Stage, undecided, aborted, History, IsPublished, IsDecided}
-use Rattle.pc_protocol.specs.Notes.{clock_was, published, drew, verdict, IsTrueNote}
+use Rattle.pc_rule_law.proofs.Lists.{all_none, all_one, all_more, none_has}
+use Rattle.pc_protocol.specs.Histories.{for_exchange, for_read, withdrawn, ended, changed, locked, Stage, absent, undecided, committed, aborted, History, IsPublished, IsDecided}
+use Rattle.pc_protocol.specs.Notes.{Note, clock_was, published, drew, verdict, outdated, IsTrueNote}
 use Rattle.pc_protocol.specs.Steps.{draw, publish}
+use Rattle.pc_protocol.proofs.Loads.{loads_tell}
 use Rattle.pc_exchange_law.specs.Ties.{code}
 use Rattle.pc_exchange_law.specs.Changes.{with_status, with_next_stamp, at_stage}
 use Rattle.pc_exchange_law.specs.Attempts.{Scripts, OwnAttempt, OwnsAttempt}
 use Rattle.pc_exchange_law.specs.AttemptSteps.{with_own_word}
 use Rattle.pc_exchange_law.specs.Passes.{PassKnows, IsKnown}
 use Rattle.pc_exchange_law.specs.Knowing.{after_own_store, after_publication, after_draw, after_refusal}
-use Rattle.pc_exchange_law.specs.Knowing.{after_decision, after_withdrawal, after_clearing}
+use Rattle.pc_exchange_law.specs.Knowing.{outdated_by, after_decision, after_withdrawal, after_clearing}
 use Rattle.pc_exchange_law.proofs.AttemptNotes.{attempt_stays}
 use Rattle.pc_exchange_law.proofs.AttemptSteps.{steps_leave_attempts}
 use Rattle.pc_exchange_law.proofs.Codes.{same_seat}
@@ -141,13 +142,27 @@ module _ (form : Form) (z : Size) (id : ℕ) (b : Board) (t : Past) (w : Scripts
       is_decided,
     )
 
+    -- where it failed since a node changed, it is outdated there
+    outdated_true : (u : Stage) → h'.stage (code p (b.status p).number) ≡ u → (m : Note)
+        → Has (outdated_by (code p (b.status p).number) u) m
+        → IsTrueNote h' m
+    outdated_true absent is = all_none (IsTrueNote h')
+    outdated_true undecided is = all_none (IsTrueNote h')
+    outdated_true (committed s) is = all_none (IsTrueNote h')
+    outdated_true (aborted withdrawn) is = all_none (IsTrueNote h')
+    outdated_true (aborted ended) is = all_none (IsTrueNote h')
+    outdated_true (aborted (changed n)) is = all_one (IsTrueNote h') (outdated (code p (b.status p).number) n)
+        ((loads_tell h' goes.world.rule).outdated_told n (code p (b.status p).number) is)
+    outdated_true (aborted (locked n q)) is = all_none (IsTrueNote h')
+
     pub decision_known : (p ≡ id → (k.own.busy ≡ true) × (st ≢ aborted withdrawn))
         → IsKnown b' t' w h' late id (after_decision k (code p (b.status p).number) st)
     decision_known mine =
         let before = goes_on b' t' w h' late goes k.own k.ready (own_decided mine) known.ready in
-        more_known 0 b' t' w h' late id k before [] (verdict (code p (b.status p).number) st ∷ [])
+        more_known 0 b' t' w h' late id k before [] (verdict (code p (b.status p).number) st ∷ outdated_by (code p (b.status p).number) st)
         (λ n has. absurd (none_has n has))
-        (all_one (IsTrueNote h') (verdict (code p (b.status p).number) st) verdict_true)
+        (all_more (IsTrueNote h') (verdict (code p (b.status p).number) st) (outdated_by (code p (b.status p).number) st) verdict_true
+        (outdated_true st verdict_true.0))
 
   -- the pass withdraws its own attempt
   pub withdrawal_known : (t' : Past) (h' : History) → k.own.busy ≡ true

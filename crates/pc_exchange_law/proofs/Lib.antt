@@ -13,6 +13,7 @@ pub mod OldNumbers
 pub mod OwnAttempts
 pub mod Passes
 pub mod Paths
+pub mod SeenPaths
 pub mod SeenStamps
 pub mod Serving
 pub mod Statuses
@@ -27,6 +28,7 @@ pub mod TieTelling
 pub mod TieWords
 pub mod Ties
 pub mod ViewNotes
+pub mod VisitLooks
 pub mod WordsSeen
 pub mod WholeCells
 pub mod WholeClosings
@@ -42,11 +44,13 @@ pub mod WholeReferences
 pub mod WholeSeats
 pub mod WholeSteps
 pub mod WholeStores
+pub mod WholeVisits
 pub mod WholeWords
 mod WorkedAttempts
 mod WorkedExchange
 mod WorkedFailure
 mod WorkedOpening
 mod WorkedSteps
+mod WorkedVisits
 pub mod WorldStatuses
 pub mod Worlds

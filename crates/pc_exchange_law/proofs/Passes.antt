@@ -78,6 +78,7 @@ module _ (form : Form) (z : Size) (cells : Cells) where
     charged = λ p a. [];
     fits = λ p a small published. absurd published;
     based = λ x published. absurd published;
+    seen = λ x published. absurd published;
   }
 
   pub known_at_opening : (j : ℕ) → IsKnown b0 t0 no_scripts h0 (λ j. false) j (knows_nothing z.starts.attempt)

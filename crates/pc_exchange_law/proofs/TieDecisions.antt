@@ -1,28 +1,33 @@
 -- A pass's attempt is decided: it takes effect at a stamp, or fails for a cause. And a decided one is cleared, which
 -- is no step of the protocol.
-use Rattle.std.proofs.Common.{◌≡◌, ℕ, ◌<◌, ◌≤◌, ⊎_elim, [], Option, Some, None, refl, sym, subst, arith}
+use Rattle.std.proofs.Common.{◌≡◌, ◌≢◌, ℕ, ◌<◌, ◌≤◌, ◌⊎◌, ⊎_elim, Option, Some, None, refl, sym, ◌∙◌, subst, arith}
 use Rattle.pc_model.specs.declared.cell.Field.{Field}
 use Rattle.pc_model.specs.Cells.{Cells}
-use Rattle.pc_model.specs.Exchanges.{FreshNode, Exchange as PathExchange}
+use Rattle.pc_model.specs.Exchanges.{Visited, FreshNode, Exchange as PathExchange}
 use Rattle.pc_words.specs.declared.status.Stage.{Stage as StatusStage}
 use Rattle.pc_words.specs.declared.status.Stage.TheVariants.{Idle, Succeeded}
 use Rattle.pc_history.specs.Footprints.{IsAmong}
 use Rattle.pc_history.specs.Updates.{updated}
 use Rattle.pc_history.proofs.Updates.{on_updated, from_updated}
 use Rattle.pc_rule_law.specs.Board.{Board, put}
-use Rattle.pc_rule_law.specs.Past.{Past}
+use Rattle.pc_rule_law.specs.Past.{Has, Past}
 use Rattle.pc_rule_law.specs.Stages.{IsOpen, IsUndecided as IsUndecidedAttempt}
 use Rattle.pc_rule_law.proofs.Updates.{at_put}
-use Rattle.pc_protocol.specs.Histories.{Cause, withdrawn, ended, changed, Stage, committed, aborted, Slot, used, History}
+use Rattle.pc_protocol.specs.Histories.{Cause, withdrawn, ended, changed, locked, Stage, committed, aborted, Slot, used, History}
 use Rattle.pc_protocol.specs.Histories.{IsPublished, IsUndecided, IsUsed}
 use Rattle.pc_protocol.specs.Rules.{Rule}
-use Rattle.pc_protocol.specs.Notes.{drew, outdated, IsTrueNote}
+use Rattle.pc_protocol.specs.Notes.{visited, drew, rival, outdated, IsTrueNote}
+use Rattle.pc_protocol.specs.Seeing.{ChangesVersion, Covers}
+use Rattle.pc_protocol.specs.Serving.{HasPassedByNotes}
 use Rattle.pc_protocol.specs.Steps.{slots_with, commit, CanCommit, abort, CanAbort}
 use Rattle.pc_protocol.proofs.Stages.{undecided_is_published}
 use Rattle.pc_protocol.proofs.Commits.{commit_keeps}
 use Rattle.pc_protocol.proofs.Aborts.{abort_keeps}
+use Rattle.pc_protocol.proofs.Serving.{notes_serve}
 use Rattle.pc_exchange_law.specs.Ties.{code, last_stamp, IsStageOf, SaysOf, exchange_of, IsTied}
 use Rattle.pc_exchange_law.specs.Changes.{with_status, with_values, at_stage, stage_by, Leads}
+use Rattle.pc_exchange_law.proofs.ChangeLists.{among_has}
+use Rattle.pc_exchange_law.proofs.Codes.{of_code}
 use Rattle.pc_exchange_law.proofs.TieDraws.{nothing_changes}
 use Rattle.pc_exchange_law.proofs.Statuses.{undecided_in_history, undecided_is_open, stages_moved, still_published, others_say, says_now, cause_is_told}
 
@@ -135,13 +140,14 @@ module _ (b : Board) (t : Past) (h : History) (tied : IsTied b t h) (p a : ℕ) 
   is_exchange : h.op (code p a) ≡ exchange_of (t.attempt p a)
   is_exchange = tied.exchanges p a small (undecided_is_published (h.stage (code p a)) undecided_there)
 
-  pub may_commit : (s : ℕ) → (t.attempt p a).visits ≡ [] → IsTrueNote h (drew (code p a) s) → CanCommit h (code p a) s
-  may_commit s no_visits drawn = record {
-    undecided = undecided_there;
-    drew = drawn;
-    checked = λ v among. absurd (subst (IsAmong v) no_visits
-        (subst (λ (e : PathExchange). IsAmong v e.visits) is_exchange among));
-  }
+  -- each visit is of a version that the attempt changes, or passed the check for the stamp
+  pub may_commit : Rule h → (s : ℕ) → IsTrueNote h (drew (code p a) s)
+      → ((v : Visited) → Has (t.attempt p a).visits v
+      → ChangesVersion (exchange_of (t.attempt p a)) v.node v.version ⊎ HasPassedByNotes h s v)
+      → CanCommit h (code p a) s
+  may_commit rule s drawn checked = (notes_serve h rule).commit (code p a) s undecided_there drawn
+      (subst (λ (e : PathExchange). (v : Visited) → IsAmong v e.visits → ChangesVersion e v.node v.version ⊎ HasPassedByNotes h s v)
+      (sym is_exchange) (λ v among. checked v (among_has (t.attempt p a).visits v among)))
 
   pub may_withdraw : CanAbort h (code p a) withdrawn
   may_withdraw = record { undecided = undecided_there; cause = tt }
@@ -154,3 +160,17 @@ module _ (b : Board) (t : Past) (h : History) (tied : IsTied b t h) (p a : ℕ) 
 
   pub may_fail : (n : ℕ) → IsTrueNote h (outdated (code p a) n) → CanAbort h (code p a) (changed n)
   may_fail n noted = record { undecided = undecided_there; cause = noted.1 }
+
+  -- a greater version of a node was seen than the one that it covers
+  pub may_pass : Rule h → (n v w at : ℕ) → Covers (exchange_of (t.attempt p a)) n v → IsTrueNote h (visited n w at) → v < w
+      → CanAbort h (code p a) (changed n)
+  may_pass rule n v w at covers seen below = (notes_serve h rule).changed_node (code p a) n v w at undecided_there
+      (subst (λ (e : PathExchange). Covers e n v) (sym is_exchange) covers) seen below
+
+  -- another pass was a rival at one of its stamps
+  pub may_lock : Rule h → (n v q s : ℕ) → Covers (exchange_of (t.attempt p a)) n v → q ≢ p → IsTrueNote h (drew (code p a) s)
+      → IsTrueNote h (rival q n s)
+      → CanAbort h (code p a) (locked n q)
+  may_lock rule n v q s covers other drawn rivals = (notes_serve h rule).locked_node (code p a) n v q s undecided_there
+      (subst (λ (e : PathExchange). Covers e n v) (sym is_exchange) covers)
+      (λ same. other (same ∙ (tied.owners (code p a) ∙ of_code p a small))) drawn rivals

@@ -1,18 +1,18 @@
 -- A pass's next attempt is published: its status goes to the next number, undecided, and its exchange, which nobody
 -- knows yet, is the one of the attempt.
-use Rattle.std.proofs.Common.{◌≡◌, ◌≢◌, ℕ, ◌+◌, ◌<◌, ◌≤◌, ⊎_elim, [], refl, sym, ap, ◌∙◌, subst, arith}
+use Rattle.std.proofs.Common.{◌≡◌, ◌≢◌, ℕ, ◌+◌, ◌<◌, ◌≤◌, ⊎_elim, refl, sym, ap, ◌∙◌, subst, arith}
 use Rattle.std.proofs.lemmas.Bool.{cases_eq}
 use Rattle.pc_model.specs.Exchanges.{Changed}
 use Rattle.pc_words.specs.declared.status.Stage.TheVariants.{Undecided}
 use Rattle.pc_words.specs.declared.status.Status.{Status}
-use Rattle.pc_history.specs.Footprints.{IsAmong}
 use Rattle.pc_history.proofs.Updates.{updated_here, updated_other, on_updated}
 use Rattle.pc_rule_law.specs.Board.{Board, put, put2}
 use Rattle.pc_rule_law.specs.Past.{Has, Attempt, Past, IsFormed}
 use Rattle.pc_rule_law.specs.Stages.{IsOpen}
 use Rattle.pc_rule_law.proofs.Updates.{put2-here, put2-else, at_put}
-use Rattle.pc_protocol.specs.Histories.{absent, undecided, History, IsPublished}
+use Rattle.pc_protocol.specs.Histories.{absent, undecided, History, moments, IsPublished}
 use Rattle.pc_protocol.specs.Rules.{Rule}
+use Rattle.pc_protocol.specs.Seeing.{Saw}
 use Rattle.pc_protocol.specs.Steps.{publish, CanPublish}
 use Rattle.pc_protocol.proofs.Publishing.{publish_keeps}
 use Rattle.pc_protocol.proofs.Stages.{none_not_some}
@@ -104,10 +104,11 @@ module _ (b : Board) (t : Past) (h : History) (tied : IsTied b t h) (p : ℕ) (s
       tied = published_tied;
     }
 
-  -- an attempt that visits nothing may be published where its form is right, whatever the board holds
-  pub may_publish : (slots c : ℕ) (x : Attempt) → c ≤ b.clock → IsFormed slots x → RaisesNodes x → x.visits ≡ []
+  -- an attempt may be published where its form is right and what it visits and reads was seen, whatever the board holds
+  pub may_publish : (slots c : ℕ) (x : Attempt) → c ≤ b.clock → IsFormed slots x → RaisesNodes x
+      → Saw (moments h) c (exchange_of x)
       → CanPublish h (code p a) (exchange_of x) c
-  may_publish slots c x past formed raises no_visits = record {
+  may_publish slots c x past formed raises saw = record {
     is_new = next_is_new;
     past = let same : h.clock ≡ b.clock = tied.clock in omega arith;
     well_formed = record {
@@ -115,10 +116,7 @@ module _ (b : Board) (t : Past) (h : History) (tied : IsTied b t h) (p : ℕ) (s
       raises = raises;
       not_fresh = λ y g among is. absurd (none_not_some g is);
     };
-    saw = record {
-      visits = λ v among. absurd (subst (IsAmong v) no_visits among);
-      reads = λ r among. absurd among;
-    };
+    saw = saw;
     fresh = λ g is. absurd (none_not_some g is);
     apart = λ y g k u is_g is_k. absurd (none_not_some g is_g);
   }

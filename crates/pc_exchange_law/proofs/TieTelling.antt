@@ -1,5 +1,5 @@
 -- What the clock, the words and the statuses of a tied board tell is true at once.
-use Rattle.std.proofs.Common.{◌≡◌, ◌≢◌, ℕ, ◌<◌, ◌≤◌, ⊎_elim, [], Some, refl, sym, ap, ◌∙◌, subst, arith}
+use Rattle.std.proofs.Common.{◌≡◌, ◌≢◌, ℕ, ◌<◌, ◌≤◌, Some, refl, sym, ap, ◌∙◌, subst, arith}
 use Rattle.pc_model.specs.declared.cell.Field.{Field}
 use Rattle.pc_model.specs.declared.cell.Field.TheVariants.{Version}
 use Rattle.pc_model.specs.Exchanges.{Changed, Exchange as PathExchange}
@@ -9,14 +9,14 @@ use Rattle.pc_history.proofs.Footprints.{same_change}
 use Rattle.pc_rule_law.specs.Board.{Board}
 use Rattle.pc_rule_law.specs.Past.{Has, Past, change}
 use Rattle.pc_rule_law.specs.Stages.{IsUndecided as IsUndecidedAttempt}
-use Rattle.pc_protocol.specs.Histories.{ended, changed, Stage, committed, aborted, History, cells_now, IsPublished, value_by, IsSpare}
+use Rattle.pc_protocol.specs.Histories.{ended, Stage, committed, aborted, History, IsPublished, value_by, IsSpare}
 use Rattle.pc_protocol.specs.Seeing.{ChangesVersion}
-use Rattle.pc_protocol.specs.Rules.{Refers, IsCause, Rule}
+use Rattle.pc_protocol.specs.Rules.{Refers, Rule}
 use Rattle.pc_protocol.specs.Notes.{clock_was, visited, read_word, verdict, outdated, IsTrueNote}
 use Rattle.pc_protocol.specs.Bases.{IsBased}
 use Rattle.pc_protocol.proofs.Bases.{bases_tell}
 use Rattle.pc_protocol.proofs.Loads.{loads_tell}
-use Rattle.pc_protocol.proofs.Stages.{aborted_is_published, committed_is_published, undecided_is_published, used_not_spare}
+use Rattle.pc_protocol.proofs.Stages.{committed_is_published, undecided_is_published, used_not_spare}
 use Rattle.pc_exchange_law.specs.Ties.{code, last_stamp, reference_in, IsSeated, IsStageOf, exchange_of, IsTied}
 use Rattle.pc_exchange_law.specs.TieLaws.{BoardTells}
 use Rattle.pc_exchange_law.proofs.ChangeLists.{has_among}
@@ -45,14 +45,14 @@ module _ (b : Board) (t : Past) (h : History) (rule : Rule h) (tied : IsTied b t
 
   -- the change of a word is one
   module _ (p a : ℕ) (small : p < 64) (published : IsPublished (h.stage (code p a))) where
-    same_op : h.op (code p a) ≡ exchange_of (t.attempt p a)
+    pub same_op : h.op (code p a) ≡ exchange_of (t.attempt p a)
     same_op = tied.exchanges p a small published
 
     among_op : (x : Changed) → Has (t.attempt p a).changes x → IsAmong x (h.op (code p a)).changes
     among_op x has = subst (λ (e : PathExchange). IsAmong x e.changes) (sym same_op)
         (has_among (t.attempt p a).changes x has)
 
-    one_change : (x y : Changed) → Has (t.attempt p a).changes x → IsAmong y (h.op (code p a)).changes
+    pub one_change : (x y : Changed) → Has (t.attempt p a).changes x → IsAmong y (h.op (code p a)).changes
         → IsOfWord x.node x.field y
         → x ≡ y
     one_change x y has among is =
@@ -71,22 +71,6 @@ module _ (b : Board) (t : Past) (h : History) (rule : Rule h) (tied : IsTied b t
       sym (tied.plain n f) ∙ (sym refers.value
       ∙ (ap (λ (x : Changed). value_by (h.stage (code p a)) x.old x.new) (sym same)
       ∙ ap (λ (u : Stage). value_by u old new) noted.0))
-
-  failed_told : (p a n old new : ℕ) → p < 64 → (t.attempt p a).visits ≡ []
-      → Has (t.attempt p a).changes (change n Version old new) → IsTrueNote h (verdict (code p a) (aborted (changed n)))
-      → old < t.plain n Version
-  failed_told p a n old new small no_visits has noted =
-      let published : IsPublished (h.stage (code p a)) = aborted_is_published (h.stage (code p a)) (changed n) noted.0 in
-      let cause : IsCause h (code p a) (changed n) = rule.caused (code p a) (changed n) noted.0 in
-      let covered : old ≡ cause.0 = ⊎_elim
-      (λ visits. absurd (subst (IsAmong visits.visit) no_visits (subst (λ (e : PathExchange). IsAmong visits.visit e.visits)
-      (same_op p a small published) visits.among)))
-      (λ changes. ap (λ (x : Changed). x.old) (one_change p a small published (change n Version old new)
-      changes.change has changes.among changes.is_of) ∙ changes.old)
-      cause.1 in
-      let now : h.plain n Version ≡ cells_now h n Version = rule.plain_is n Version (no_spare n) in
-      let same : h.plain n Version ≡ t.plain n Version = tied.plain n Version in
-      let less : cause.0 < cells_now h n Version = cause.2 in omega arith
 
   unchanged_told : (n v c : ℕ) (f : Field) (x p a new : ℕ) → b.cell n Version ≡ Exchange p a
       → IsUndecidedAttempt b.status p a
@@ -144,7 +128,6 @@ module _ (b : Board) (t : Past) (h : History) (rule : Rule h) (tied : IsTied b t
     plain = plain_told;
     unchanged = unchanged_told;
     stands = stands_told;
-    failed = failed_told;
     ran_out = ran_out_told;
     outdates = outdates_told;
     was_outdated = λ x n noted. (loads_tell h rule).outdated_told n x noted.0;

@@ -10,7 +10,7 @@ use Rattle.pc_exchange_law.proofs.TieDraws.{look_leads, draw_leads, other_draw_l
 use Rattle.pc_exchange_law.proofs.TieWords.{may_refer, word_leads}
 use Rattle.pc_exchange_law.proofs.TiePublishing.{publish_leads, may_publish}
 use Rattle.pc_exchange_law.proofs.TieDecisions.{success_leads, failure_leads, clearing_leads}
-use Rattle.pc_exchange_law.proofs.TieDecisions.{may_commit, may_withdraw, may_end, may_fail}
+use Rattle.pc_exchange_law.proofs.TieDecisions.{may_commit, may_withdraw, may_end, may_fail, may_lock}
 use Rattle.pc_exchange_law.proofs.TieSuccesses.{success_serves}
 
 pub steps_stay_tied : (z : Size) (b : Board) (t : Past) (h : History) → z.seats ≤ 32 → Rule h → IsTied b t h
@@ -31,12 +31,12 @@ pub words_serve : (z : Size) (b : Board) (t : Past) (h : History) → z.seats �
 words_serve z b t h few rule tied = record {
   refer = may_refer z b t h few tied;
   draw = may_draw b t h tied;
-  publish = λ p c x small past formed raises no_visits. may_publish b t h tied p small z.slots c x past formed raises
-      no_visits;
-  commit = λ p a s small u no_visits drawn. may_commit b t h tied p a small u s no_visits drawn;
+  publish = λ p c x small past formed raises saw. may_publish b t h tied p small z.slots c x past formed raises saw;
+  commit = λ p a s small u drawn checked. may_commit b t h tied p a small u rule s drawn checked;
   withdraw = may_withdraw b t h tied;
   run_out = may_end b t h tied;
   fail = λ p a n small u noted. may_fail b t h tied p a small u n noted;
+  lock = λ p a n v q s small u covers other drawn rivals. may_lock b t h tied p a small u rule n v q s covers other drawn rivals;
 }
 
 pub successes_serve : (b : Board) (t : Past) (h : History) → Rule h → IsTied b t h → SuccessesServe b t h

@@ -25,8 +25,8 @@ pub view_notes_stay : (form : Form) (z : Size) (id : ℕ) (b : Board) (t : Past)
 view_notes_stay form z id b t w h late v k few shared world own noted known = record {
   stores = λ place x may. keeps_notes z b t _ _
       (store_step form z few id b t w h late shared world v own noted k known place x may).0.grows;
-  publishes = λ x c keys may. keeps_notes z b t _ _
-      (publish_step form z few id b t w h late shared world v own noted k known x c keys may).0.grows;
+  publishes = λ path x c keys may. keeps_notes z b t _ _
+      (publish_step form z few id b t w h late shared world v own noted k known path x c keys may).0.grows;
   draws = λ p a may. keeps_notes z b t _ _
       (draw_step form z few id b t w h late shared world v own noted k known p a may).1.0.grows;
   refuses = λ ready. keeps_notes z b t _ _

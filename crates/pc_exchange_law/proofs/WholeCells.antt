@@ -24,8 +24,9 @@ use Rattle.pc_rule_law.proofs.Lists.{has_first, has_left, has_right, all_both, a
 use Rattle.pc_rule_law.proofs.Looks.{found_holds}
 use Rattle.pc_rule_law.proofs.Stages.{open_or_not}
 use Rattle.pc_protocol.specs.Histories.{History}
-use Rattle.pc_protocol.specs.Notes.{visited, verdict}
+use Rattle.pc_protocol.specs.Notes.{Note as RunNote, visited, verdict, IsTrueNote}
 use Rattle.pc_exchange_law.specs.Attempts.{IsCalm, calm, calm_but, IsTrueAttemptNote}
+use Rattle.pc_exchange_law.specs.Knowing.{with_more}
 use Rattle.pc_exchange_law.specs.Passes.{PassKnows, IsKnown}
 use Rattle.pc_exchange_law.specs.Paths.{Path, IsPathOf}
 use Rattle.pc_exchange_law.specs.Ties.{code, IsTied}
@@ -34,11 +35,12 @@ use Rattle.pc_exchange_law.specs.WholePlays.{WholeMine, IsFoundCalm, CellSeen, S
 use Rattle.pc_exchange_law.specs.WholeSteps.{whole_loads_cell}
 use Rattle.pc_exchange_law.proofs.Calms.{calms_serve}
 use Rattle.pc_exchange_law.proofs.ExchangeSteps.{true_or_false}
-use Rattle.pc_exchange_law.proofs.Knowing.{decided_on_board}
+use Rattle.pc_exchange_law.proofs.Knowing.{decided_on_board, more_known, more_learns}
 use Rattle.pc_exchange_law.proofs.WholeFound.{not_cleared, version_rises, visit_rises, sentinel_even}
 use Rattle.pc_exchange_law.proofs.WholeKeeping.{at_view, own_here, known_here, path_here, whole_looked}
 use Rattle.pc_exchange_law.proofs.WholeLooks.{word_seen}
 use Rattle.pc_exchange_law.proofs.WholeSteps.{WholeLooks, whole_looked_at}
+use Rattle.pc_exchange_law.proofs.WordsSeen.{seen_still}
 
 -- whether a word is clean of an attempt can be told
 clean_or_not : (placing : ℕ → ℕ → Placing) (p a : ℕ) (c : WordKind) → IsClean placing p a c ⊎ (IsClean placing p a c → ⊥)
@@ -102,14 +104,16 @@ module _ (form : Form) (z : Size) where
       (one.0, one.1, λ _ is. one.2 is))
       (open_or_not (b.status p).stage)
 
-  -- a look at a word of a node, with some notes more, which are true, and with a path that is so
-  pub cell_looks_on : (id : ℕ) (x : Whole) (n : ℕ) (f : Field) → x.view.live ≡ true → Inside z (at_cell n f) → (b : Board)
+  -- a look at a word of a node, with some notes more of both kinds, which are true, and with a path that is so
+  pub cell_looks_more : (id : ℕ) (x : Whole) (n : ℕ) (f : Field) → x.view.live ≡ true → Inside z (at_cell n f) → (b : Board)
       (t : Past) (h : History) (late : ℕ → Bool) (views : List Whole) → WholeKept form z b t h late views
       → get_elem? views id ≡ some x → (extra : List Note) → AllNotes (NoteHolds z b t) extra
+      → (told : List RunNote) → ((m : RunNote) → Has told m → IsTrueNote h m)
       → (p : Path) → IsPathOf h id p
       → (y : Whole) × WholeKept form z b t h late (set views id y)
-      × (SameSeat x.view y.view × CellSeen x n f (raw (b.cell n f)) y × ((m : Note) → Has extra m → Has y.view.notes m) × (y.path ≡ p))
-  cell_looks_on id x n f live in_p b t h late views k at extra true_ones p path =
+      × (SameSeat x.view y.view × CellSeen x n f (raw (b.cell n f)) y × ((m : Note) → Has extra m → Has y.view.notes m)
+      × (y.path ≡ p) × ((m : RunNote) → Has told m → Has y.knows.told m))
+  cell_looks_more id x n f live in_p b t h late views k at extra true_ones told truly_told p path =
       let s = k.kept.shared in let w : WordKind = b.cell n f in let in_range = s.ranges n f in
       let own = own_here form z b t h late views k id x at live in
       let known = known_here form z b t h late views k id x at live in
@@ -123,7 +127,7 @@ module _ (form : Form) (z : Size) where
       let seen : List Note = cleaned.0 ++ found n f w in
       let more : List Note = extra ++ seen in
       let learnt = word_seen form z b t h late views k id x.knows known n f in
-      let y : Whole = record { view = with_notes x.view more; knows = learnt.0; aim = x.aim; path = p } in
+      let y : Whole = record { view = with_notes x.view more; knows = with_more learnt.0 [] told; aim = x.aim; path = p } in
       let same : kind (raw w) ≡ w = kind_raw w in_range in
       let truly : kind (raw w) ≢ Exchange x.view.seat a → IsFoundCalm x.knows x.view.seat a n f (kind (raw w))
       → Has cleaned.0 (clean x.view.seat a n f) = λ other calmed.
@@ -136,7 +140,8 @@ module _ (form : Form) (z : Size) where
             (noted_more (IsSound form) z b t (views_of views) id x.view more k.kept
             (at_view form z b t h late views k id x at live) live
             (all_both (NoteHolds z b t) extra seen true_ones (all_both (NoteHolds z b t) cleaned.0 (found n f w) cleaned.1
-            (found_holds (IsSound form) z b t s n f w refl in_p in_range (s.each_cell n f))))) learnt.2 path,
+            (found_holds (IsSound form) z b t s n f w refl in_p in_range (s.each_cell n f)))))
+            (more_known z.slots b t t.words h late id learnt.0 learnt.2 [] told (all_none (IsTrueAttemptNote b t t.words)) truly_told) path,
         (
           (refl, refl, refl, refl, refl),
           record {
@@ -148,7 +153,8 @@ module _ (form : Form) (z : Size) where
               has_right extra seen m
                   (has_right cleaned.0 (found n f w) m (subst (λ (c : WordKind). Has (found n f c) m) same has)),
             );
-            seen = learnt.1;
+            seen = seen_still x.knows n f (kind (raw w)) learnt.0 y.knows learnt.1
+                (more_learns z.slots b t t.words h late id learnt.0 learnt.2 [] told);
             aim = refl;
             cleans = λ other calmed. has_left more x.view.notes (clean x.view.seat a n f)
                 (has_right extra seen (clean x.view.seat a n f)
@@ -169,8 +175,19 @@ module _ (form : Form) (z : Size) where
           },
           λ m has. has_left more x.view.notes m (has_left extra seen m has),
           refl,
+          λ m has. has_left told learnt.0.told m has,
         ),
       )
+
+  pub cell_looks_on : (id : ℕ) (x : Whole) (n : ℕ) (f : Field) → x.view.live ≡ true → Inside z (at_cell n f) → (b : Board)
+      (t : Past) (h : History) (late : ℕ → Bool) (views : List Whole) → WholeKept form z b t h late views
+      → get_elem? views id ≡ some x → (extra : List Note) → AllNotes (NoteHolds z b t) extra
+      → (p : Path) → IsPathOf h id p
+      → (y : Whole) × WholeKept form z b t h late (set views id y)
+      × (SameSeat x.view y.view × CellSeen x n f (raw (b.cell n f)) y × ((m : Note) → Has extra m → Has y.view.notes m) × (y.path ≡ p))
+  cell_looks_on id x n f live in_p b t h late views k at extra true_ones p path =
+      let g = cell_looks_more id x n f live in_p b t h late views k at extra true_ones [] (all_none (IsTrueNote h)) p path in
+      (g.0, g.1, (g.2.0, g.2.1, g.2.2, g.2.3))
 
   pub whole_cell_looks : (id : ℕ) (x : Whole) (n : ℕ) (f : Field) → x.view.live ≡ true → Inside z (at_cell n f)
       → WholeLooks form z id x (at_cell n f) (λ r y. SameSeat x.view y.view × SeesCell x r y (at_cell n f))

@@ -14,7 +14,7 @@ use Rattle.pc_words.proofs.Statuses.{packed_injective, unpacked_packed}
 use Rattle.pc_rule_law.specs.Board.{Size, Board, own_status, at_own, address, Inside}
 use Rattle.pc_rule_law.specs.Past.{Past}
 use Rattle.pc_rule_law.specs.Stages.{IsIdle, IsOpen, DecidedBelow}
-use Rattle.pc_rule_law.specs.Views.{decided_below, NoteHolds, IsAttempt}
+use Rattle.pc_rule_law.specs.Views.{View, decided_below, NoteHolds, IsAttempt}
 use Rattle.pc_rule_law.specs.Plays.{SameSeat}
 use Rattle.pc_rule_law.specs.Rule.{Own}
 use Rattle.pc_rule_law.proofs.Frames.{only_status}
@@ -150,12 +150,12 @@ module _ (form : Form) (z : Size) where
       (hits b t h late views k at hit)
 
   -- the new status of a failure that isn't of the pass's own accord says its cause
-  fails_so : (k : PassKnows) (p a : ℕ) (cause : Cause) → MayFail k p a cause
+  fails_so : (v : View) (k : PassKnows) (p a : ℕ) (cause : Cause) → MayFail v k p a cause
       → verdict_by (stage_by cause) ≡ aborted cause
-  fails_so k p a withdrawn may = absurd may
-  fails_so k p a ended may = refl
-  fails_so k p a (changed n) may = refl
-  fails_so k p a (locked n q) may = absurd may
+  fails_so v k p a withdrawn may = absurd may
+  fails_so v k p a ended may = refl
+  fails_so v k p a (changed n) may = refl
+  fails_so v k p a (locked n q) may = refl
 
   success_hits : (id : ℕ) (x : Whole) (p a s : ℕ) → x.view.live ≡ true → IsAttempt z p a → MaySucceed x.view x.knows p a s
       → WholeHits form z id x (at_own p own_status) (packed (undecided_status a)) (packed (decided_status a (Succeeded s)))
@@ -199,14 +199,14 @@ module _ (form : Form) (z : Size) where
       }) live (inside.0, tt))
 
   failure_hits : (id : ℕ) (x : Whole) (p a : ℕ) (cause : Cause) → x.view.live ≡ true → IsAttempt z p a
-      → StageInRange (stage_by cause) → MayFail x.knows p a cause
+      → StageInRange (stage_by cause) → MayFail x.view x.knows p a cause
       → WholeHits form z id x (at_own p own_status) (packed (undecided_status a)) (packed (decided_status a (stage_by cause)))
       (λ r y. SameSeat x.view y.view × DecidedAs x p a (aborted cause) (packed (undecided_status a)) r y)
   failure_hits id x p a cause live inside in_range may b t h late views k at hit =
       let few : z.seats ≤ 32 = k.kept.few in let lt = inside.0 in let small : p < 64 = omega arith in
       let is : b.status p ≡ undecided_status a = found_undecided b t h late views k p a inside.1 hit in
       let pending : IsOpen (b.status p).stage = subst (λ (u : Status). IsOpen u.stage) (sym is) tt in
-      let at_number : ℕ → Type 0 = λ i. MayFail x.knows p i cause
+      let at_number : ℕ → Type 0 = λ i. MayFail x.view x.knows p i cause
       → packed (b.status p) ≡ packed (undecided_status i)
       → WholeGoes form z b views id (at_own p own_status) (packed (decided_status i (stage_by cause)))
       (λ y. SameSeat x.view y.view
@@ -225,7 +225,7 @@ module _ (form : Form) (z : Size) where
 
   -- attempt a of pass p fails for a cause
   pub whole_fail : (slots id : ℕ) (me : WholeMine) (p a : ℕ) (cause : Cause) → me.0.view.size ≡ z → me.0.view.live ≡ true
-      → IsAttempt z p a → StageInRange (stage_by cause) → MayFail me.0.knows p a cause
+      → IsAttempt z p a → StageInRange (stage_by cause) → MayFail me.0.view me.0.knows p a cause
       → let old : ℕ = packed (undecided_status a) in let new : ℕ = packed (decided_status a (stage_by cause)) in
       Allows (WholeHolds form z) slots id me (address z (at_own p own_status)) (λ n. either (eqb n old) new n)
       (whole_decides (step slots (address z (at_own p own_status)) old new none) me)
@@ -233,7 +233,7 @@ module _ (form : Form) (z : Size) where
       (packed (undecided_status a)) (packed (decided_status a (stage_by cause)))
       (HasDecided me.0 (packed (undecided_status a)) (packed (decided_status a (stage_by cause)))) (inside.0, tt) sized
       (decided_hits id me.0 p a (stage_by cause) (aborted cause) inside.1 in_range
-      (fails_so me.0.knows p a cause may) (failure_hits id me.0 p a cause live inside in_range may))
+      (fails_so me.0.view me.0.knows p a cause may) (failure_hits id me.0 p a cause live inside in_range may))
       (decision_misses id me.0 p (packed (undecided_status a))
       (λ y. y ≡ record me.0 {
         view = after_decided me.0.view p (unpacked (packed (undecided_status a))).number;

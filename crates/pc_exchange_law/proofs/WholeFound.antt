@@ -1,20 +1,20 @@
 -- What is found in a word of a node isn't what the pass knows to be gone from it; and its version is none below one that the pass
 -- knows of.
-use Rattle.std.proofs.Common.{◌≡◌, ◌≢◌, ℕ, ◌≤◌, Bool, true, List, refl, sym, ap, ◌∙◌, subst, arith}
+use Rattle.std.proofs.Common.{◌≡◌, ◌≢◌, ℕ, ◌≤◌, Bool, true, List, refl, sym, ◌∙◌, subst, arith}
 use mathlib.Core.Option.{some}
 use lib.ListN.{get_elem?}
 use Rattle.pc_model.specs.declared.cell.Field.{Field}
 use Rattle.pc_model.specs.declared.cell.Field.TheVariants.{Version}
 use Rattle.pc_model.specs.Cells.{IsEven}
 use Rattle.pc_model.specs.Exchanges.{Visited}
-use Rattle.pc_model.specs.Forms.{Form, IsSound}
+use Rattle.pc_model.specs.Forms.{Form}
 use Rattle.pc_words.specs.declared.word.WordKind.TheVariants.{Plain, Exchange}
-use Rattle.pc_words.specs.Words.{raw, kind}
+use Rattle.pc_words.specs.Words.{raw}
 use Rattle.pc_words.proofs.Words.{kind_raw}
 use Rattle.pc_history.specs.Footprints.{IsAmong}
 use Rattle.pc_history.proofs.Moments.{versions_never_fall}
 use Rattle.pc_rule_law.specs.Board.{Size, Board}
-use Rattle.pc_rule_law.specs.Past.{Has, Past, change}
+use Rattle.pc_rule_law.specs.Past.{Past, change}
 use Rattle.pc_rule_law.specs.Rule.{Holding, CellOk}
 use Rattle.pc_rule_law.specs.Views.{clean, IsClean}
 use Rattle.pc_protocol.specs.Histories.{History, moments, cells_now}

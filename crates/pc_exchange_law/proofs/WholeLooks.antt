@@ -28,6 +28,7 @@ use Rattle.pc_exchange_law.specs.Knowing.{IsAboveSeen}
 use Rattle.pc_exchange_law.specs.Ties.{code, last_stamp}
 use Rattle.pc_exchange_law.specs.Knowing.{LoadsTellPasses, StatusSeen, WordSeen, after_clock}
 use Rattle.pc_exchange_law.specs.Passes.{PassKnows, IsKnown}
+use Rattle.pc_exchange_law.specs.Paths.{read_of}
 use Rattle.pc_exchange_law.specs.Wholes.{Whole, views_of, WholeKept, WholeHolds}
 use Rattle.pc_exchange_law.specs.WholePlays.{WholeMine, SeesClock, SeesWord, OwnVerdict, SeesStatus, SeesInstall}
 use Rattle.pc_exchange_law.specs.WholeSteps.{whole_loads_clock, whole_loads_word, whole_loads_status, whole_loads_install}
@@ -56,10 +57,11 @@ module _ (form : Form) (z : Size) where
       let low = clock_looks (IsSound form) z id x.view live b t (views_of views) k.kept
       (at_view form z b t h late views k id x at live) in
       let e = is_early b.clock in
-      let y : Whole = record x { view = low.0; knows = after_clock x.knows b.clock e.0 } in (
+      let y : Whole = record x { view = low.0; knows = after_clock x.knows b.clock (read_of x.path) e.0 } in (
         y,
         whole_looked form z b t h late views k id x at live y low.1
-            ((tells b t h late views k id x.knows (known_here form z b t h late views k id x at live)).clock e.0 e.1) (path_here form z b t h late views k id x at live),
+            ((tells b t h late views k id x.knows (known_here form z b t h late views k id x at live)).clock (read_of x.path) e.0
+            (path_here form z b t h late views k id x at live).noted e.1) (path_here form z b t h late views k id x at live),
         (
           low.2.0,
           (

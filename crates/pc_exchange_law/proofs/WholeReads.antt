@@ -46,6 +46,7 @@ use Rattle.pc_exchange_law.specs.Worlds.{World}
 use Rattle.pc_exchange_law.proofs.ExchangeSteps.{refuse_step}
 use Rattle.pc_exchange_law.proofs.Knowing.{more_learns}
 use Rattle.pc_exchange_law.proofs.Paths.{path_stays, path_used, check_passes, stamp_is_drawn, may_read}
+use Rattle.pc_exchange_law.proofs.SeenPaths.{paths_still}
 use Rattle.pc_exchange_law.proofs.WholeCells.{cell_looks_on}
 use Rattle.pc_exchange_law.proofs.WholeDraws.{drawn}
 use Rattle.pc_exchange_law.proofs.WholeKeeping.{views_set, at_view, mine, own_here, known_here, path_here, path_kept}
@@ -157,6 +158,7 @@ module _ (form : Form) (z : Size) where
       charged = world.charged;
       fits = world.fits;
       based = bases_still h h' keeps (λ y is. is) world.based;
+      seen = paths_still h h' keeps (λ y is. is) world.seen;
     }
 
     known_then : (j : ℕ) (u : PassKnows) → IsKnown b t t.words h late j u → IsKnown b t t.words h' late j u

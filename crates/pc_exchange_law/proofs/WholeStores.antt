@@ -20,6 +20,7 @@ use Rattle.pc_rule_law.proofs.InstallStores.{store_owes}
 use Rattle.pc_rule_law.proofs.Lists.{all_none}
 use Rattle.pc_rule_law.proofs.Updates.{put-here, put2-here}
 use Rattle.pc_protocol.specs.Histories.{History}
+use Rattle.pc_protocol.specs.Notes.{saw}
 use Rattle.pc_protocol.specs.Steps.{publish}
 use Rattle.pc_exchange_law.specs.AttemptSteps.{with_own_word}
 use Rattle.pc_exchange_law.specs.Attempts.{word_in}
@@ -28,11 +29,13 @@ use Rattle.pc_exchange_law.specs.ExchangeConditions.{MayStoreOwn, MayPublish, Ma
 use Rattle.pc_exchange_law.specs.ExchangeLaws.{Comes}
 use Rattle.pc_exchange_law.specs.Knowing.{after_own_store, after_publication, after_clearing}
 use Rattle.pc_exchange_law.specs.Passes.{PassKnows}
+use Rattle.pc_exchange_law.specs.Paths.{read_of}
 use Rattle.pc_exchange_law.specs.Ties.{code, exchange_of}
 use Rattle.pc_exchange_law.specs.Wholes.{Whole, views_of, WholeHolds}
 use Rattle.pc_exchange_law.specs.WholePlays.{WholeMine, StoredInstall, StoredWord, HasPublished, after_clear, HasCleared}
 use Rattle.pc_exchange_law.specs.WholeSteps.{whole_stores_install, whole_stores_word, whole_publishes, whole_clears}
 use Rattle.pc_exchange_law.proofs.ExchangeSteps.{store_step, publish_step, clear_step}
+use Rattle.pc_exchange_law.proofs.SeenPaths.{counts_reads}
 use Rattle.pc_exchange_law.proofs.WholeKeeping.{at_view, mine, own_here, known_here, path_kept, steps_here, whole_after, whole_goes}
 use Rattle.pc_exchange_law.proofs.WholeSteps.{WholeOwes, whole_allowed}
 
@@ -128,14 +131,14 @@ module _ (form : Form) (z : Size) where
   cleared_status k = record { number = k.own.number; stage = Idle }
 
   whole_publish_owes : (id : ℕ) (x : Whole) (e : Attempt) (c : ℕ) (keys : List ℕ) → x.view.live ≡ true
-      → MayPublish form z x.knows e c keys
+      → MayPublish form z x.knows x.path e c keys
       → WholeOwes form z id x (at_own x.view.seat own_status) (λ _. packed (published_status x.knows))
       (λ _ y. SameSeat x.view y.view × HasPublished x y (at_own x.view.seat own_status))
   whole_publish_owes id x e c keys live may b t h late views k at =
       let own = own_here form z b t h late views k id x at live in
       let known = known_here form z b t h late views k id x at live in
       let step = publish_step form z k.kept.few id b t t.words h late k.kept.shared k.world x.view own
-      (mine form z b t h late views k id x at live).noted x.knows known e c keys may in
+      (mine form z b t h late views k id x at live).noted x.knows known x.path e c keys may in
       let a : ℕ = (b.status id).number + 1 in let s : Status = record { number = a; stage = Undecided } in
       let same : (b.status id).number ≡ x.knows.own.number = known.own.number in
       let b' : Board = with_status b id s in
@@ -172,13 +175,15 @@ module _ (form : Form) (z : Size) where
             may.clock,
             ap (λ (i : ℕ). record x { view = after_publish x.view; knows = after_publication x.knows i (exchange_of e) c })
                 (ap₂ (λ (j i : ℕ). code j (i + 1)) (sym own.seated.0) same),
+            counts_reads x.knows x.path c e may.seen,
+            may.above,
           ),
         );
       }
 
   -- the own next attempt is published
   pub whole_publish : (slots id : ℕ) (me : WholeMine) (e : Attempt) (c : ℕ) (keys : List ℕ) → me.0.view.size ≡ z
-      → me.0.view.live ≡ true → MayPublish form z me.0.knows e c keys → Inside z (at_own me.0.view.seat own_status)
+      → me.0.view.live ≡ true → MayPublish form z me.0.knows me.0.path e c keys → Inside z (at_own me.0.view.seat own_status)
       → Allows (WholeHolds form z) slots id me (address z (at_own me.0.view.seat own_status))
       (λ _. packed (published_status me.0.knows))
       (whole_publishes (step slots (address z (at_own me.0.view.seat own_status)) (packed (published_status me.0.knows)) 0 none) me)

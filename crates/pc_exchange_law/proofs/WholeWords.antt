@@ -15,8 +15,8 @@ use Rattle.pc_rule_law.specs.Board.{Size, Board, at_cell, address, Inside}
 use Rattle.pc_rule_law.specs.Conditions.{CanPlace, CanTake}
 use Rattle.pc_rule_law.specs.Past.{Has, Past, change}
 use Rattle.pc_rule_law.specs.Plays.{SameSeat, InstallTried, InstallTaken}
-use Rattle.pc_rule_law.specs.Rule.{Holding, CellOk, Kept, Shared}
-use Rattle.pc_rule_law.specs.Views.{View, clean, IsClean}
+use Rattle.pc_rule_law.specs.Rule.{Kept, Shared}
+use Rattle.pc_rule_law.specs.Views.{View}
 use Rattle.pc_rule_law.proofs.InstallPlacing.{place_hits, place_misses}
 use Rattle.pc_rule_law.proofs.InstallTaking.{take_hits, take_misses}
 use Rattle.pc_rule_law.proofs.Descriptors.{known_entry}
@@ -26,18 +26,17 @@ use Rattle.pc_rule_law.proofs.Updates.{put_cell-here}
 use Rattle.pc_protocol.specs.Histories.{History}
 use Rattle.pc_protocol.specs.Notes.{Note, outdated, IsTrueNote}
 use Rattle.pc_protocol.specs.Steps.{refer}
-use Rattle.pc_exchange_law.specs.Attempts.{OwnsAttempt, IsTrueAttemptNote}
+use Rattle.pc_exchange_law.specs.Attempts.{IsTrueAttemptNote}
 use Rattle.pc_exchange_law.specs.Changes.{with_word, with_installs}
 use Rattle.pc_exchange_law.specs.ExchangeLaws.{Comes}
 use Rattle.pc_exchange_law.specs.Knowing.{with_more, WordSeen}
 use Rattle.pc_exchange_law.specs.Passes.{PassKnows}
 use Rattle.pc_exchange_law.specs.Ties.{code, reference_in}
 use Rattle.pc_exchange_law.specs.Wholes.{Whole, views_of, WholeKept, WholeHolds}
-use Rattle.pc_exchange_law.specs.WholePlays.{WholeMine, WordSwapped, IsNotCleared, OldDiffers, WholePlaced, WholeTaken}
+use Rattle.pc_exchange_law.specs.WholePlays.{WholeMine, WordSwapped, OldDiffers, WholePlaced, WholeTaken}
 use Rattle.pc_exchange_law.specs.WholeSteps.{whole_places, whole_takes}
 use Rattle.pc_exchange_law.proofs.ExchangeLaws.{exchange_steps_go_on}
 use Rattle.pc_exchange_law.proofs.Knowing.{more_known, more_learns}
-use Rattle.pc_exchange_law.proofs.Serving.{notes_clear}
 use Rattle.pc_exchange_law.proofs.TieTelling.{board_tells}
 use Rattle.pc_exchange_law.proofs.TieMoves.{may_become, brings}
 use Rattle.pc_exchange_law.proofs.WholeFound.{not_cleared}

@@ -13,7 +13,7 @@ use Rattle.pc_exchange_law.specs.ClockEnds.{count_late}
 
 -- an attempt of one change, as it is stored: the count, and then the entry from its last word on
 abbrev to_put : Attempt
-to_put = record { mode = 0; changes = change 1 Value 0 50 ∷ []; visits = [] }
+to_put = record { mode = 0; changes = change 1 Value 0 50 ∷ []; visits = []; reads = [] }
 
 abbrev stored : List (ℕ × ℕ)
 stored = (3, 10) ∷ (5, 50) ∷ (1, 1) ∷ []

@@ -18,9 +18,10 @@ use Rattle.pc_rule_law.specs.Stages.{IsOpen, IsUndecided as IsUndecidedAttempt}
 use Rattle.pc_rule_law.specs.Rule.{Holding}
 use Rattle.pc_rule_law.specs.Openings.{opening_board, opening_attempt, opening_words}
 use Rattle.pc_rule_law.specs.Seats.{opening_past}
-use Rattle.pc_rule_law.proofs.Lists.{all_more, all_none}
+use Rattle.pc_rule_law.proofs.Lists.{all_more, all_none, none_has}
 use Rattle.pc_rule_law.proofs.WordKinds.{plain_not_exchange, install_not_exchange, seat_of, number_of}
-use Rattle.pc_protocol.specs.Histories.{for_exchange, committed, History}
+use Rattle.pc_protocol.specs.Histories.{for_exchange, committed, History, moments}
+use Rattle.pc_protocol.specs.Seeing.{Saw}
 use Rattle.pc_protocol.specs.Steps.{draw, publish, commit, refer}
 use Rattle.pc_protocol.proofs.Stages.{none_not_some, undecided_not_committed}
 use Rattle.pc_exchange_law.specs.Ties.{code, seat_in, number_in, exchange_of, IsTied}
@@ -54,7 +55,7 @@ abbrev put_value : Changed
 put_value = change 1 Value 0 50
 
 abbrev to_put : Attempt
-to_put = record { mode = 0; changes = raise ∷ put_value ∷ []; visits = [] }
+to_put = record { mode = 0; changes = raise ∷ put_value ∷ []; visits = []; reads = [] }
 
 each_change : (P : Changed → Type 0) → P raise → P put_value → (x : Changed) → Has to_put.changes x → P x
 each_change P of_raise of_value = all_more P raise (put_value ∷ []) of_raise
@@ -82,14 +83,17 @@ formed : IsFormed 1 to_put
 formed = record {
   few = omega arith;
   few_visits = omega arith;
-  no_visits = refl;
   inside = each_change (λ x. ((1 ≤ x.node) × (x.node ≤ 2)) × (x.old < 2 ^ 62) × (x.new < 2 ^ 62))
       ((omega arith, omega arith), omega arith, omega arith) ((omega arith, omega arith), omega arith, omega arith);
+  visited = λ x has. absurd (none_has x has);
   apart = λ i j x y at_i at_j node field. ⊎_elim
       (λ l. ⊎_elim (λ r. l.0 ∙ sym r.0) (λ r. absurd (two_fields x y l.1 r.1 field)) (place_of j y at_j))
       (λ l. ⊎_elim (λ r. absurd (two_fields y x r.1 l.1 (sym field))) (λ r. l.0 ∙ sym r.0) (place_of j y at_j))
       (place_of i x at_i);
 }
+
+nothing_seen : (at : ℕ → Cells) → Saw at 5 (exchange_of to_put)
+nothing_seen at = record { visits = λ v among. absurd among; reads = λ r among. absurd among }
 
 -- what follows from a state to which a step leads
 steps : (h : History) (b' : Board) (t' : Past) (h' : History) → Leads h b' t' h' → StepsStayTied two b' t' h'
@@ -126,7 +130,7 @@ h1 = publish h0 257 (exchange_of to_put) 5
 
 led1 : Leads h0 b1 t1 h1
 led1 = (steps h0 b0 t0 h0 led0).publishes 1 5 to_put (omega arith) (λ o. o)
-    ((serve h0 b0 t0 h0 led0).publish 1 5 to_put (omega arith) (omega arith) formed raises refl)
+    ((serve h0 b0 t0 h0 led0).publish 1 5 to_put (omega arith) (omega arith) formed raises (nothing_seen (moments (opening_history zeros 5))))
 
 -- ---- an install is placed in its first word, and then its references are put
 
@@ -203,7 +207,7 @@ t6 = with_values t1 h6.plain h6.plain t1.attempt t1.words
 
 led6 : Leads h5 b6 t6 h6
 led6 = (steps h4 b5 t1 h5 led5).succeeds 1 5 h6.plain h6.plain (omega arith)
-    ((serve h4 b5 t1 h5 led5).commit 1 4 5 (omega arith) (refl, tt) refl (omega arith, refl)) (λ n f. refl)
+    ((serve h4 b5 t1 h5 led5).commit 1 4 5 (omega arith) (refl, tt) (omega arith, refl) (λ v has. absurd (none_has v has))) (λ n f. refl)
 
 -- ---- its references are taken away, and it is cleared
 

@@ -29,12 +29,15 @@ use Rattle.pc_exchange_law.specs.TieLaws.{opening_history}
 use Rattle.pc_exchange_law.specs.Attempts.{Scripts, word_in}
 use Rattle.pc_exchange_law.specs.AttemptSteps.{with_own_word, with_script, no_scripts}
 use Rattle.pc_exchange_law.specs.Passes.{PassKnows, IsKnown}
+use Rattle.pc_exchange_law.specs.Paths.{read_of, new_path}
 use Rattle.pc_exchange_law.specs.Knowing.{after_clock, after_own_store, after_publication}
 use Rattle.pc_exchange_law.specs.Wholes.{knows_nothing}
 use Rattle.pc_exchange_law.specs.Worlds.{World}
 use Rattle.pc_exchange_law.specs.ExchangeConditions.{KnowsOld, was_opened, KnowsBasis}
 use Rattle.pc_exchange_law.specs.ExchangeLaws.{Comes, ExchangeStepsGoOn}
+use Rattle.pc_exchange_law.proofs.SeenStamps.{none_above, above_clock}
 use Rattle.pc_exchange_law.proofs.ExchangeLaws.{exchange_steps_go_on}
+use Rattle.pc_exchange_law.proofs.Paths.{empty_path}
 use Rattle.pc_exchange_law.proofs.Passes.{world_opens, known_at_opening}
 use Rattle.pc_exchange_law.proofs.WordsSeen.{loads_tell_passes}
 
@@ -66,7 +69,7 @@ abbrev pub raise : Changed
 raise = change 1 Version 0 2
 
 abbrev pub to_raise : Attempt
-to_raise = record { mode = 0; changes = raise ∷ []; visits = [] }
+to_raise = record { mode = 0; changes = raise ∷ []; visits = []; reads = [] }
 
 pub the_change : (i : ℕ) (x : Changed) → get_elem? to_raise.changes i ≡ some x → i ≡ 0
 the_change zero x at = refl
@@ -76,7 +79,7 @@ pub formed : IsFormed 1 to_raise
 formed = record {
   few = omega arith;
   few_visits = omega arith;
-  no_visits = refl;
+  visited = λ x has. absurd (none_has x has);
   inside = all_one (λ x. ((1 ≤ x.node) × (x.node ≤ 2)) × (x.old < 2 ^ 62) × (x.new < 2 ^ 62)) raise
       ((omega arith, omega arith), omega arith, omega arith);
   apart = λ i j x y at_i at_j _ _. let e = the_change i x at_i in let d = the_change j y at_j in omega arith;
@@ -97,8 +100,8 @@ pub empty_formed : IsFormed 1 (attempt_of [])
 empty_formed = record {
   few = omega arith;
   few_visits = omega arith;
-  no_visits = refl;
   inside = λ x has. absurd (none_has x has);
+  visited = λ x has. absurd (none_has x has);
   apart = λ i j x y at. absurd (some-ne-none x (sym at));
 }
 
@@ -139,11 +142,12 @@ pub world0 : World any_form two b0 t0 no_scripts h0 none_late
 world0 = world_opens any_form two cells (λ n f. refl) ([], tt) (omega arith)
 
 abbrev pub k0 : PassKnows
-k0 = after_clock (knows_nothing 3) 5 true
+k0 = after_clock (knows_nothing 3) 5 (read_of new_path) true
 
 pub known0 : IsKnown b0 t0 no_scripts h0 none_late 0 k0
 known0 = (loads_tell_passes 1 2 b0 t0 no_scripts h0 none_late 0 (knows_nothing 3) world0.scripts world0.rule world0.tied
-    world0.clock (known_at_opening any_form two cells 0)).clock true (λ _. omega arith)
+    world0.clock (known_at_opening any_form two cells 0)).clock (read_of new_path) true
+    (empty_path h0 0 true).noted (λ _. omega arith)
 
 -- what follows from a step
 pub steps : (b : Board) (t : Past) (w : Scripts) (h : History) (late : ℕ → Bool) (b' : Board) (t' : Past) (w' : Scripts)
@@ -231,13 +235,14 @@ k4 = after_publication k3 256 (exchange_of to_raise) 5
 
 pub step4 : Comes any_form two 0 b3 t0 no_scripts h0 none_late b4 t4 w4 h4 none_late k4
 step4 = (steps b2 t0 no_scripts h0 none_late b3 t0 no_scripts h0 none_late k3 v0 step3 own0
-    (all_none (NoteHolds two b3 t0))).publishes to_raise 5 [] (record {
+    (all_none (NoteHolds two b3 t0))).publishes new_path to_raise 5 [] (record {
       rests = refl;
       room = omega arith;
       clock = (0, refl);
+      above = above_clock [] 5 (read_of new_path) (none_above 5);
       formed = formed;
       raises = raises;
-      no_visits = refl;
+      seen = inl (refl, (refl, refl));
       described = described;
       fits = fits;
       based = basis k3;

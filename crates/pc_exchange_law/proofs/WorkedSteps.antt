@@ -121,7 +121,7 @@ k7 = after_decision k6 256 (committed 5)
 
 step7 : Comes any_form two 0 b6 t4 w4 h6 step6.0 b7 t7 w4 h7 step6.0 k7
 step7 = (steps b5 t4 w4 h5 none_late b6 t4 w4 h6 step6.0 k6 v0 step6.1 own0 (all_none (NoteHolds two b6 t4))).succeeds 0 5
-    (omega arith) tt (record { drawn = (0, refl); low = omega arith; no_visits = inr (refl, refl, refl, refl) })
+    (omega arith) tt (record { drawn = (0, refl); low = omega arith; checked = record { count = 0; counted = inr (refl, refl, refl, refl); each = λ i lt. absurd (omega arith) } })
 
 -- ---- the new number takes the place of the reference
 

@@ -1,5 +1,5 @@
 -- The steps of one status, whole but for views: an attempt is published, takes effect, fails or is cleared.
-use Rattle.std.proofs.Common.{◌≡◌, ◌≢◌, ℕ, ◌+◌, ◌^◌, ◌<◌, ◌≤◌, ◌⊎◌, inl, inr, ⊎_elim, Bool, List, [], refl, sym, ap, subst, arith}
+use Rattle.std.proofs.Common.{◌≡◌, ◌≢◌, ℕ, ◌+◌, ◌^◌, ◌<◌, ◌≤◌, ◌⊎◌, inl, inr, ⊎_elim, Bool, List, refl, sym, ap, subst, arith}
 use Rattle.pc_model.specs.Cells.{Cells}
 use Rattle.pc_model.specs.Exchanges.{Changed}
 use Rattle.pc_model.specs.Forms.{Form, IsSound, Fits}
@@ -20,7 +20,8 @@ use Rattle.pc_rule_law.proofs.StatusMoves.{StatusMoves, status_shared, status_gr
 use Rattle.pc_rule_law.proofs.Keeping.{LeavesTries}
 use Rattle.pc_rule_law.proofs.Outcomes as Outcomes
 use Rattle.pc_protocol.specs.Histories.{Cause, withdrawn, ended, changed, locked, undecided, committed, aborted, History}
-use Rattle.pc_protocol.specs.Histories.{IsPublished}
+use Rattle.pc_protocol.specs.Histories.{moments, IsPublished}
+use Rattle.pc_protocol.specs.Seeing.{Saw}
 use Rattle.pc_protocol.specs.Bases.{HasBasis}
 use Rattle.pc_protocol.specs.Steps.{publish, commit, CanCommit, abort, CanAbort}
 use Rattle.pc_protocol.proofs.Bases.{bases_still, bases_with}
@@ -35,6 +36,7 @@ use Rattle.pc_exchange_law.specs.Worlds.{World}
 use Rattle.pc_exchange_law.proofs.AttemptSteps.{steps_keep_attempts, steps_leave_attempts}
 use Rattle.pc_exchange_law.proofs.Codes.{same_seat, same_number}
 use Rattle.pc_exchange_law.proofs.OwnAttempts.{steps_keep_scripts}
+use Rattle.pc_exchange_law.proofs.SeenPaths.{paths_still, paths_with}
 use Rattle.pc_exchange_law.proofs.Statuses.{undecided_on_board}
 use Rattle.pc_exchange_law.proofs.TieDecisions.{published_before, success_leads, failure_leads, clearing_leads}
 use Rattle.pc_exchange_law.proofs.TieMoves.{success_moves}
@@ -70,7 +72,7 @@ module _ (form : Form) (z : Size) (id : ℕ) (b : Board) (t : Past) (w : Scripts
   -- the pass publishes its next attempt, whose words stand in its descriptor
   module _ (small : id < 64) (c : ℕ) (x : Attempt) (keys : List ℕ) (idle : IsIdle (b.status id).stage)
       (room : (b.status id).number + 1 < 2 ^ 28) (past : c ≤ b.clock) (formed : IsFormed z.slots x)
-      (raises : RaisesNodes x) (no_visits : x.visits ≡ []) (describes : Describes z.slots x (b.word id))
+      (raises : RaisesNodes x) (saw : Saw (moments h) c (exchange_of x)) (describes : Describes z.slots x (b.word id))
       (fits : Fits form z.slots (exchange_of x) keys) (basis : HasBasis h (exchange_of x)) where
     abbrev a : ℕ
     a = (b.status id).number + 1
@@ -92,7 +94,7 @@ module _ (form : Form) (z : Size) (id : ℕ) (b : Board) (t : Past) (w : Scripts
 
     led : Leads h (with_status b id next) (with_values t t.cells t.plain attempt' words') h'
     led = publish_leads b t h world.tied id small c x (λ o. open_not_idle (b.status id).stage o idle) world.rule
-        (may_publish b t h world.tied id small z.slots c x past formed raises no_visits)
+        (may_publish b t h world.tied id small z.slots c x past formed raises saw)
 
     charged' : ℕ → ℕ → List ℕ
     charged' = put2 world.charged id a keys
@@ -123,6 +125,8 @@ module _ (form : Form) (z : Size) (id : ℕ) (b : Board) (t : Past) (w : Scripts
         charged = put2 world.charged id a keys;
         fits = fits_still;
         based = bases_with h (code id a) (exchange_of x) c led.keeps basis world.based;
+        seen = paths_with h (code id a) (exchange_of x) c led.keeps
+            ((let same : h.clock ≡ b.clock = world.tied.clock in omega arith), saw) world.seen;
       };
       keeps = led.keeps;
       grows = status_grows (IsSound form) z b t id id next t.cells t.plain attempt' words' shared moves;
@@ -201,6 +205,8 @@ module _ (form : Form) (z : Size) (id : ℕ) (b : Board) (t : Past) (w : Scripts
           fits = fits_won;
           based = bases_still h (commit h y s) won.keeps
               (published_before b t h world.tied p small (committed s) can.undecided) world.based;
+          seen = paths_still h (commit h y s) won.keeps
+              (published_before b t h world.tied p small (committed s) can.undecided) world.seen;
         };
         keeps = won.keeps;
         grows = status_grows (IsSound form) z b t id p (at_stage b p (Succeeded s)) after after t.attempt t.words shared won_moves;
@@ -257,6 +263,8 @@ module _ (form : Form) (z : Size) (id : ℕ) (b : Board) (t : Past) (w : Scripts
               (published_before b t h world.tied p small (aborted cause) can.undecided (code q i) published);
           based = bases_still h (abort h y cause) lost.keeps
               (published_before b t h world.tied p small (aborted cause) can.undecided) world.based;
+          seen = paths_still h (abort h y cause) lost.keeps
+              (published_before b t h world.tied p small (aborted cause) can.undecided) world.seen;
         };
         keeps = lost.keeps;
         grows = status_grows (IsSound form) z b t id p (at_stage b p (stage_by cause)) t.cells t.plain t.attempt t.words shared
@@ -290,6 +298,7 @@ module _ (form : Form) (z : Size) (id : ℕ) (b : Board) (t : Past) (w : Scripts
         charged = world.charged;
         fits = world.fits;
         based = world.based;
+        seen = world.seen;
       };
       keeps = (clearing_leads b t h world.tied id closed world.rule).keeps;
       grows = status_grows (IsSound form) z b t id id (at_stage b id Idle) t.cells t.plain t.attempt t.words shared idle_moves;

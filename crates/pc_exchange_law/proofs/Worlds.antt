@@ -29,6 +29,7 @@ use Rattle.pc_exchange_law.specs.Worlds.{World}
 use Rattle.pc_exchange_law.proofs.AttemptSteps.{steps_keep_attempts, steps_leave_attempts}
 use Rattle.pc_exchange_law.proofs.ClockEnds.{clock_ends}
 use Rattle.pc_exchange_law.proofs.OwnAttempts.{steps_keep_scripts}
+use Rattle.pc_exchange_law.proofs.SeenPaths.{paths_still}
 use Rattle.pc_exchange_law.proofs.TieDraws.{nothing_changes, look_leads, draw_leads, other_draw_leads}
 use Rattle.pc_exchange_law.proofs.TieMoves.{may_become, brings}
 use Rattle.pc_exchange_law.proofs.TieWords.{word_leads}
@@ -63,6 +64,7 @@ module _ (form : Form) (z : Size) (id : ℕ) (b : Board) (t : Past) (w : Scripts
         fits = λ p a small published. subst (λ (x : Attempt). Fits form z.slots (exchange_of x) (world.charged p a))
             (sym (same.attempts p a)) (world.fits p a small published);
         based = world.based;
+        seen = world.seen;
       };
       keeps = nothing_changes h world.rule;
       grows = grows;
@@ -94,6 +96,7 @@ module _ (form : Form) (z : Size) (id : ℕ) (b : Board) (t : Past) (w : Scripts
             charged = world.charged;
             fits = world.fits;
             based = bases_still h (refer h n f (reference_in c)) led.keeps (λ x is. is) world.based;
+            seen = paths_still h (refer h n f (reference_in c)) led.keeps (λ x is. is) world.seen;
           };
           keeps = led.keeps;
           grows = word_grows z b t id n f c placing' course' (IsSound form) shared moves;
@@ -137,6 +140,7 @@ module _ (form : Form) (z : Size) (id : ℕ) (b : Board) (t : Past) (w : Scripts
         charged = world.charged;
         fits = world.fits;
         based = world.based;
+        seen = world.seen;
       };
       keeps = nothing_changes h world.rule;
       grows = record {
@@ -204,6 +208,7 @@ module _ (form : Form) (z : Size) (id : ℕ) (b : Board) (t : Past) (w : Scripts
           charged = world.charged;
           fits = world.fits;
           based = bases_still h (draw h d) led.keeps (λ x is. is) world.based;
+          seen = paths_still h (draw h d) led.keeps (λ x is. is) world.seen;
         };
         keeps = led.keeps;
         grows = record {

@@ -1,6 +1,8 @@
 -- What no step takes back of attempts, and what a step leaves to the passes of other seats; so notes of attempts stay
 -- true. What they serve for.
-use Rattle.std.specs.Prelude.{◌≡◌, ◌≢◌, ℕ, ◌+◌, ◌≤◌, ◌<◌, List}
+use Rattle.std.specs.Prelude.{◌≡◌, ◌≢◌, ℕ, ◌+◌, ◌≤◌, ◌<◌, List, length}
+use mathlib.Core.Option.{some}
+use lib.ListN.{get_elem?}
 use Rattle.pc_model.specs.declared.cell.Field.{Field}
 use Rattle.pc_model.specs.Exchanges.{Changed}
 use Rattle.pc_words.specs.declared.word.WordKind.TheVariants.{Install, Exchange}
@@ -11,7 +13,7 @@ use Rattle.pc_rule_law.specs.Views.{IsClean}
 use Rattle.pc_protocol.specs.Histories.{withdrawn, aborted, History}
 use Rattle.pc_exchange_law.specs.Ties.{code}
 use Rattle.pc_exchange_law.specs.Attempts.{Scripts, OwnAttempt, OwnsAttempt, AttemptNote, listed_word, loaded_word, calm, calm_but}
-use Rattle.pc_exchange_law.specs.Attempts.{IsEarlyFor, IsTrueAttemptNote, KnowsWord, KnowsEntry, KnowsPlaces}
+use Rattle.pc_exchange_law.specs.Attempts.{IsEarlyFor, IsTrueAttemptNote, KnowsWord, KnowsEntry, KnowsVisit, KnowsPlaces}
 
 -- what no step takes back
 pub record AttemptsGrow (b : Board) (t : Past) (w : Scripts) (b' : Board) (t' : Past) (w' : Scripts) : Type 0 where
@@ -49,6 +51,9 @@ pub record AttemptsAreKnown (slots : ℕ) (b : Board) (t : Past) (w : Scripts) (
   pub word : (p a place x : ℕ) → KnowsWord notes seat o p a place x → (a ≤ (b.status p).number) × (w p a place ≡ x)
   pub entry : (p a i n : ℕ) (f : Field) (old new : ℕ) → KnowsEntry notes seat o p a i n f old new
       → (a ≤ (b.status p).number) × Has (t.attempt p a).changes (change n f old new)
+  pub visit : (p a i n v : ℕ) → KnowsVisit slots notes seat o p a i n v
+      → (a ≤ (b.status p).number) × (get_elem? (t.attempt p a).visits i ≡ some (record { node = n; version = v }))
+  pub visits : (p a c : ℕ) → KnowsWord notes seat o p a 2 c → length (t.attempt p a).visits ≡ c
   pub places : (p a : ℕ) (k : KnowsPlaces notes seat o p a) (x : Changed) → Has (t.attempt p a).changes x
       → (i : ℕ) × (below : i < k.count) × ((k.each i below).0 ≡ x.node) × ((k.each i below).1 ≡ x.field)
   -- a word that was loaded is the attempt's, where its status is seen to have that number and not to be idle

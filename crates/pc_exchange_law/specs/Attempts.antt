@@ -6,7 +6,7 @@ use Rattle.pc_model.specs.declared.cell.Field.{Field}
 use Rattle.pc_words.specs.declared.word.WordKind.{WordKind}
 use Rattle.pc_words.specs.declared.word.WordKind.TheVariants.{Plain, Install, Exchange}
 use Rattle.pc_rule_law.specs.Board.{Board, place_number}
-use Rattle.pc_rule_law.specs.Past.{Has, Placing, Past, Describes}
+use Rattle.pc_rule_law.specs.Past.{Has, Placing, Past, Describes, visits_begin}
 use Rattle.pc_rule_law.specs.Stages.{IsIdle, DecidedBelow}
 pub use Rattle.pc_rule_law.specs.Views.{word_in}
 use Rattle.pc_protocol.specs.Histories.{withdrawn, aborted, History}
@@ -96,6 +96,14 @@ pub record KnowsEntry (notes : List AttemptNote) (seat : ℕ) (o : OwnAttempt) (
   pub place : KnowsWord notes seat o p a (3 + 3 * i) (place_number n f)
   pub old_word : KnowsWord notes seat o p a (4 + 3 * i) old
   pub new_word : KnowsWord notes seat o p a (5 + 3 * i) new
+
+-- visit i is of this node at this version
+pub record KnowsVisit (slots : ℕ) (notes : List AttemptNote) (seat : ℕ) (o : OwnAttempt) (p a i n v : ℕ) : Type 0 where
+  pub count : ℕ
+  pub counted : KnowsWord notes seat o p a 2 count
+  pub below : i < count
+  pub node_word : KnowsWord notes seat o p a (visits_begin slots + 2 * i) n
+  pub version_word : KnowsWord notes seat o p a (visits_begin slots + (1 + 2 * i)) v
 
 -- the word of each entry is known
 pub record KnowsPlaces (notes : List AttemptNote) (seat : ℕ) (o : OwnAttempt) (p a : ℕ) : Type 0 where

@@ -1,9 +1,9 @@
 -- What a pass has to know before it makes each kind of step of an exchange: facts on its own view and on what it knows
 -- beside it.
-use Rattle.std.specs.Prelude.{◌≡◌, ℕ, ◌+◌, ◌^◌, ◌<◌, ◌≤◌, true, false, List, []}
+use Rattle.std.specs.Prelude.{◌≡◌, ◌≢◌, ℕ, ◌+◌, ◌^◌, ◌<◌, ◌≤◌, ◌⊎◌, true, false, List, []}
 use Rattle.pc_model.specs.declared.cell.Field.{Field}
 use Rattle.pc_model.specs.declared.cell.Field.TheVariants.{Version}
-use Rattle.pc_model.specs.Exchanges.{Changed, Exchange}
+use Rattle.pc_model.specs.Exchanges.{Visited, Changed, Exchange}
 use Rattle.pc_model.specs.Forms.{Form, Fits}
 use Rattle.pc_model.specs.Linked.{opening_cells}
 use Rattle.pc_history.specs.Footprints.{IsAmong}
@@ -11,12 +11,14 @@ use Rattle.pc_rule_law.specs.Board.{Size}
 use Rattle.pc_rule_law.specs.Past.{Has, Attempt, change, Describes, IsFormed}
 use Rattle.pc_rule_law.specs.Views.{held, clean, View}
 use Rattle.pc_protocol.specs.Histories.{Cause, withdrawn, ended, changed, locked, Stage, committed, value_by}
-use Rattle.pc_protocol.specs.Notes.{clock_was, visited, read_word, published, drew, verdict, outdated}
-use Rattle.pc_protocol.specs.Seeing.{ChangesVersion}
+use Rattle.pc_protocol.specs.Notes.{value, by, clock_was, visited, read_word, saw, looked, published, drew, verdict, rival, outdated}
+use Rattle.pc_protocol.specs.Seeing.{ChangesVersion, Covers}
 use Rattle.pc_exchange_law.specs.Ties.{code, last_stamp, exchange_of}
 use Rattle.pc_exchange_law.specs.Changes.{RaisesNodes}
-use Rattle.pc_exchange_law.specs.Attempts.{word_in, KnowsWord, KnowsEntry, KnowsPlaces}
+use Rattle.pc_exchange_law.specs.Attempts.{word_in, KnowsWord, KnowsEntry, KnowsVisit, KnowsPlaces}
+use Rattle.pc_exchange_law.specs.Knowing.{IsAboveSeen}
 use Rattle.pc_exchange_law.specs.Passes.{PassKnows}
+use Rattle.pc_exchange_law.specs.Paths.{Path, read_of}
 use Rattle.pc_exchange_law.specs.Wholes.{Whole}
 
 -- the own descriptor is written while no attempt is published
@@ -42,15 +44,34 @@ abbrev pub KnowsBasis : Size → PassKnows → Attempt → Type 0
 KnowsBasis z k x = (a : Changed) → IsAmong a x.changes
     → (v : ℕ) × ChangesVersion (exchange_of x) a.node v × KnowsOld z k a.node v a.field a.old
 
+-- the attempt visits and reads nothing
+abbrev pub VisitsNothing : Attempt → Type 0
+VisitsNothing x = (x.visits ≡ []) × (x.reads ≡ [])
+
+-- it visits what the pass visited, or changes the versions that were visited, and it reads what the pass read; all of which was
+-- seen to be so by this clock
+pub record VisitsPath (k : PassKnows) (path : Path) (c : ℕ) (x : Attempt) : Type 0 where
+  pub seen : Has k.told (saw c (read_of path))
+  pub visits : (v : Visited) → IsAmong v x.visits → IsAmong v path.visits
+  pub covered : (v : Visited) → IsAmong v path.visits → Covers (exchange_of x) v.node v.version
+  pub reads : x.reads ≡ path.reads
+
+-- by its mode an attempt is one of words alone, or one of the pass's path
+abbrev pub GoesByPath : PassKnows → Path → ℕ → Attempt → Type 0
+GoesByPath k path c x = ((x.mode ≡ 0) × VisitsNothing x) ⊎ ((x.mode ≢ 0) × VisitsPath k path c x)
+
 -- a publication of the next attempt: the stored words describe it, it raises its nodes, it keeps cells sound, the old
--- numbers of its words are known, and the clock was read
-pub record MayPublish (form : Form) (z : Size) (k : PassKnows) (x : Attempt) (c : ℕ) (keys : List ℕ) : Type 0 where
+-- numbers of its words are known, the clock was read, and it visits and reads nothing, or goes by the pass's path
+pub record MayPublish (form : Form) (z : Size) (k : PassKnows) (path : Path) (x : Attempt) (c : ℕ) (keys : List ℕ)
+    : Type 0 where
   pub rests : k.own.busy ≡ false
   pub room : k.own.number + 1 < 2 ^ 28
   pub clock : Has k.told (clock_was c)
+  -- it was read last: it is above each stamp that was seen
+  pub above : IsAboveSeen k.told c
   pub formed : IsFormed z.slots x
   pub raises : RaisesNodes x
-  pub no_visits : x.visits ≡ []
+  pub seen : GoesByPath k path c x
   pub described : Describes z.slots x (word_in k.own.words)
   pub fits : Fits form z.slots (exchange_of x) keys
   pub based : KnowsBasis z k x
@@ -63,19 +84,50 @@ pub record MayDrawFor (v : View) (k : PassKnows) (p a : ℕ) : Type 0 where
   pub places : KnowsPlaces k.noted v.seat k.own p a
   pub each : (i : ℕ) (below : i < places.count) → Has v.notes (held p a (places.each i below).0 (places.each i below).1)
 
--- that an attempt takes effect at a stamp: it was drawn for it, and the attempt is known to have no visits
+-- how a pass knows that a visit of node n at version x, by attempt a of pass p, passed the check for a stamp
+pub data KnowsPassed (v : View) (k : PassKnows) (p a s n x : ℕ) : Type 0 where
+  -- the attempt changes the version from this one
+  is_changed : (j new : ℕ) → KnowsEntry k.noted v.seat k.own p a j n Version x new → KnowsPassed v k p a s n x
+  -- a look for the stamp found a number that isn't greater
+  was_found : (w : ℕ) → Has k.told (looked s n (value w)) → w ≤ x → KnowsPassed v k p a s n x
+  -- or the reference to an attempt that is decided, by which the version isn't greater
+  was_settled : (q b j old new : ℕ) (st : Stage) → q < 64 → Has k.told (looked s n (by (code q b)))
+      → Has k.told (verdict (code q b) st) → KnowsEntry k.noted v.seat k.own q b j n Version old new
+      → value_by st old new ≤ x → KnowsPassed v k p a s n x
+
+-- every visit of the attempt is known, and passed the check for a stamp
+pub record KnowsChecked (v : View) (k : PassKnows) (p a s : ℕ) : Type 0 where
+  pub count : ℕ
+  pub counted : KnowsWord k.noted v.seat k.own p a 2 count
+  pub each : (i : ℕ) → i < count
+      → (n : ℕ) × (x : ℕ) × KnowsVisit v.size.slots k.noted v.seat k.own p a i n x × KnowsPassed v k p a s n x
+
+-- that an attempt takes effect at a stamp: it was drawn for it, and each visit of the attempt passed the check for it
 pub record MaySucceed (v : View) (k : PassKnows) (p a s : ℕ) : Type 0 where
   pub drawn : Has k.told (drew (code p a) s)
   pub low : s < 2 ^ 34
-  pub no_visits : KnowsWord k.noted v.seat k.own p a 2 0
+  pub checked : KnowsChecked v k p a s
 
--- that it fails: the clock has come to its last stamp, or the attempt is known to be outdated at a node. That a pass
--- withdraws its own attempt is a step apart, which asks for nothing; and no attempt is locked until paths come
-abbrev pub MayFail : PassKnows → ℕ → ℕ → Cause → Type 0
-MayFail k p a withdrawn = ⊥
-MayFail k p a ended = (c : ℕ) × Has k.told (clock_was c) × (last_stamp ≤ c)
-MayFail k p a (changed n) = Has k.told (outdated (code p a) n)
-MayFail k p a (locked n q) = ⊥
+-- the attempt is known to visit a node, or to change its version
+abbrev pub KnowsCovered : View → PassKnows → ℕ → ℕ → ℕ → Type 0
+KnowsCovered v k p a n = ((i : ℕ) × (x : ℕ) × KnowsVisit v.size.slots k.noted v.seat k.own p a i n x)
+    ⊎ ((i : ℕ) × (old : ℕ) × (new : ℕ) × KnowsEntry k.noted v.seat k.own p a i n Version old new)
+
+-- How a pass knows that an attempt is outdated at a node: it was told so; or the reference to another attempt was seen in the
+-- node's version, which is decided, and by which the version is above one that the attempt visits.
+pub data KnowsOutdated (v : View) (k : PassKnows) (p a n : ℕ) : Type 0 where
+  was_told : Has k.told (outdated (code p a) n) → KnowsOutdated v k p a n
+  is_passed : (q b j i x old new : ℕ) (st : Stage) → q < 64 → Has v.notes (held q b n Version) → Has k.told (verdict (code q b) st)
+      → KnowsEntry k.noted v.seat k.own q b j n Version old new → KnowsVisit v.size.slots k.noted v.seat k.own p a i n x
+      → x < value_by st old new → KnowsOutdated v k p a n
+
+-- that it fails: the clock has come to its last stamp, the attempt is known to be outdated at a node, or another pass was a
+-- rival for a node of it at one of its stamps. That a pass withdraws its own attempt is a step apart, which asks for nothing
+abbrev pub MayFail : View → PassKnows → ℕ → ℕ → Cause → Type 0
+MayFail v k p a withdrawn = ⊥
+MayFail v k p a ended = (c : ℕ) × Has k.told (clock_was c) × (last_stamp ≤ c)
+MayFail v k p a (changed n) = KnowsOutdated v k p a n
+MayFail v k p a (locked n q) = (s : ℕ) × Has k.told (drew (code p a) s) × Has k.told (rival q n s) × (q ≢ p) × KnowsCovered v k p a n
 
 -- a number in place of a reference: by an entry of this word, and how the attempt was decided
 pub record MayTakeReference (v : View) (k : PassKnows) (p a n : ℕ) (f : Field) (x : ℕ) : Type 0 where

@@ -21,6 +21,7 @@ use Rattle.pc_exchange_law.specs.Attempts.{Scripts}
 use Rattle.pc_exchange_law.specs.AttemptLaws.{AttemptsGrow, LeavesAttempts}
 use Rattle.pc_exchange_law.specs.AttemptSteps.{with_own_word, with_script, KeepsAttempts, BringsInstalls}
 use Rattle.pc_exchange_law.specs.Passes.{PassKnows, IsKnown}
+use Rattle.pc_exchange_law.specs.Paths.{Path}
 use Rattle.pc_exchange_law.specs.Knowing.{after_own_store, after_publication, after_draw, after_refusal, after_decision}
 use Rattle.pc_exchange_law.specs.Knowing.{after_withdrawal, after_clearing}
 use Rattle.pc_exchange_law.specs.ExchangeConditions.{MayStoreOwn, MayPublish, MayDrawFor, MaySucceed, MayFail}
@@ -55,7 +56,7 @@ module _ (form : Form) (z : Size) (id : ℕ) (b : Board) (t : Past) (w : Scripts
         → Comes (with_word b n f c) (with_installs t placing' course') w (refer h n f (reference_in c)) late k
     pub stores : (place x : ℕ) → MayStoreOwn k
         → Comes (with_own_word b id place x) t w h late (after_own_store k place x)
-    pub publishes : (x : Attempt) (c : ℕ) (keys : List ℕ) → MayPublish form z k x c keys
+    pub publishes : (path : Path) (x : Attempt) (c : ℕ) (keys : List ℕ) → MayPublish form z k path x c keys
         → let a : ℕ = (b.status id).number + 1 in
         Comes (with_status b id (record { number = a; stage = Undecided }))
         (with_values t t.cells t.plain (put2 t.attempt id a x) (put2 t.words id a (b.word id))) (with_script w id a (b.word id))
@@ -73,7 +74,7 @@ module _ (form : Form) (z : Size) (id : ℕ) (b : Board) (t : Past) (w : Scripts
         Comes (with_status b p (at_stage b p (Succeeded s))) (with_values t h'.plain h'.plain t.attempt t.words) w h' late
         (after_decision k (code p (b.status p).number) (committed s))
     pub fails : (p : ℕ) (cause : Cause) → p < 64 → IsOpen (b.status p).stage → StageInRange (stage_by cause)
-        → MayFail k p (b.status p).number cause
+        → MayFail v k p (b.status p).number cause
         → Comes (with_status b p (at_stage b p (stage_by cause))) t w (abort h (code p (b.status p).number) cause) late
         (after_decision k (code p (b.status p).number) (aborted cause))
     pub withdraws : IsOpen (b.status id).stage

@@ -11,8 +11,9 @@ use Rattle.pc_words.specs.declared.status.Status.{Status}
 use Rattle.pc_rule_law.specs.Board.{Board}
 use Rattle.pc_rule_law.specs.Past.{Has, Past}
 use Rattle.pc_rule_law.specs.Stages.{IsIdle, IsOpen}
-use Rattle.pc_protocol.specs.Histories.{committed, Stage, History}
-use Rattle.pc_protocol.specs.Notes.{Note, clock_was, visited, read_word, published, held, drew, verdict, rival, in_run, outdated}
+use Rattle.pc_protocol.specs.Histories.{withdrawn, ended, changed, locked, Stage, absent, undecided, committed, aborted, History}
+use Rattle.pc_protocol.specs.Notes.{Note, clock_was, visited, read_word, saw, published, held, drew, verdict, rival, in_run, outdated}
+use Rattle.pc_protocol.specs.Telling.{IsNoted}
 use Rattle.pc_exchange_law.specs.Ties.{code, last_stamp, IsStageOf}
 use Rattle.pc_exchange_law.specs.Attempts.{Scripts, AttemptNote, came_to, loaded_word, listed_word, calm, calm_but}
 use Rattle.pc_exchange_law.specs.Passes.{PassKnows, IsKnown}
@@ -64,9 +65,9 @@ pub record WordSeen (k : PassKnows) (n : ℕ) (f : Field) (c : WordKind) (k' : P
   pub install : (p a q i : ℕ) (st : Stage) → p < 64 → c ≡ Install q i → Has k.told (verdict (code p a) st)
       → Has k'.noted (calm_but p a n f q i)
 
--- the clock: the pass may draw where it is below the last stamp
-abbrev pub after_clock : PassKnows → ℕ → Bool → PassKnows
-after_clock k c early = record (with_more k [] (clock_was c ∷ [])) { ready = early }
+-- the clock: the pass may draw where it is below the last stamp, and what it visited and read was so by then
+abbrev pub after_clock : PassKnows → ℕ → PathExchange → Bool → PassKnows
+after_clock k c e early = record (with_more k [] (clock_was c ∷ saw c e ∷ [])) { ready = early }
 
 -- ---- the other steps
 
@@ -99,8 +100,18 @@ abbrev pub after_refusal : PassKnows → ℕ → PassKnows
 after_refusal k c = record (with_more k [] (clock_was c ∷ [])) { ready = false }
 
 -- a decision of exchange x; and one by which the pass withdraws its own
+-- one that failed since a node changed is outdated there
+abbrev pub outdated_by : ℕ → Stage → List Note
+outdated_by x absent = []
+outdated_by x undecided = []
+outdated_by x (committed s) = []
+outdated_by x (aborted withdrawn) = []
+outdated_by x (aborted ended) = []
+outdated_by x (aborted (changed n)) = outdated x n ∷ []
+outdated_by x (aborted (locked n q)) = []
+
 abbrev pub after_decision : PassKnows → ℕ → Stage → PassKnows
-after_decision k x st = with_more k [] (verdict x st ∷ [])
+after_decision k x st = with_more k [] (verdict x st ∷ outdated_by x st)
 
 abbrev pub after_withdrawal : PassKnows → ℕ → Stage → PassKnows
 after_withdrawal k x st = record (with_more k [] (verdict x st ∷ [])) { own = record k.own { withdrew = true } }
@@ -118,5 +129,5 @@ pub record LoadsTellPasses (b : Board) (t : Past) (w : Scripts) (h : History) (l
   -- a plain word has the plain value
   pub word : (n : ℕ) (f : Field) → ((x : ℕ) → b.cell n f ≡ Plain x → t.plain n f ≡ x)
       → (k' : PassKnows) × WordSeen k n f (b.cell n f) k' × IsKnown b t w h late id k'
-  pub clock : (early : Bool) → (early ≡ true → b.clock < last_stamp)
-      → IsKnown b t w h late id (after_clock k b.clock early)
+  pub clock : (e : PathExchange) (early : Bool) → IsNoted h e → (early ≡ true → b.clock < last_stamp)
+      → IsKnown b t w h late id (after_clock k b.clock e early)

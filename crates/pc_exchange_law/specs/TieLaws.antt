@@ -3,7 +3,7 @@ use Rattle.std.specs.Prelude.{◌≡◌, ◌≢◌, ℕ, ◌+◌, ◌<◌, ◌�
 use Rattle.pc_model.specs.declared.cell.Field.{Field}
 use Rattle.pc_model.specs.declared.cell.Field.TheVariants.{Version}
 use Rattle.pc_model.specs.Cells.{Cells}
-use Rattle.pc_model.specs.Exchanges.{Changed, Exchange as PathExchange}
+use Rattle.pc_model.specs.Exchanges.{Visited, Changed, Exchange as PathExchange}
 use Rattle.pc_model.specs.Forms.{Form, IsSound, Fits}
 use Rattle.pc_words.specs.declared.word.WordKind.{WordKind}
 use Rattle.pc_words.specs.declared.word.WordKind.TheVariants.{Plain, Exchange}
@@ -18,8 +18,10 @@ use Rattle.pc_rule_law.specs.Values.{IsPlainValue}
 use Rattle.pc_rule_law.specs.Openings.{opening_board, opening_attempt, opening_words}
 use Rattle.pc_rule_law.specs.Seats.{opening_past}
 use Rattle.pc_protocol.specs.Histories.{Purpose, for_exchange, for_read, Cause, withdrawn, ended, changed, locked, Stage, committed, aborted, used}
-use Rattle.pc_protocol.specs.Histories.{History, IsPublished, IsUndecided, value_by}
+use Rattle.pc_protocol.specs.Histories.{History, moments, IsPublished, IsUndecided, value_by}
 use Rattle.pc_protocol.specs.Rules.{Rule}
+use Rattle.pc_protocol.specs.Seeing.{ChangesVersion, Covers, Saw}
+use Rattle.pc_protocol.specs.Serving.{HasPassedByNotes}
 use Rattle.pc_protocol.specs.Notes.{clock_was, visited, read_word, held, drew, verdict, rival, in_run, outdated, IsTrueNote}
 use Rattle.pc_protocol.specs.Bases.{IsBased}
 use Rattle.pc_protocol.specs.Steps.{draw, CanDraw, publish, CanPublish, commit, CanCommit, abort, CanAbort, refer, CanRefer}
@@ -93,10 +95,13 @@ pub record StepsStayTied (z : Size) (b : Board) (t : Past) (h : History) : Type 
 pub record WordsServe (z : Size) (b : Board) (t : Past) (h : History) : Type 0 where
   pub refer : (n : ℕ) (f : Field) (c : WordKind) → MayBecome z b t n f c → CanRefer h n f (reference_in c)
   pub draw : (p a : ℕ) → p < 64 → IsPublished (h.stage (code p a)) → HoldsAll b t p a → CanDraw h (code p a)
-  pub publish : (p c : ℕ) (x : Attempt) → p < 64 → c ≤ b.clock → IsFormed z.slots x → RaisesNodes x → x.visits ≡ []
+  pub publish : (p c : ℕ) (x : Attempt) → p < 64 → c ≤ b.clock → IsFormed z.slots x → RaisesNodes x
+      → Saw (moments h) c (exchange_of x)
       → CanPublish h (code p ((b.status p).number + 1)) (exchange_of x) c
-  pub commit : (p a s : ℕ) → p < 64 → IsUndecidedAttempt b.status p a → (t.attempt p a).visits ≡ []
-      → IsTrueNote h (drew (code p a) s)
+  -- each visit is of a version that the attempt changes, or passed the check for the stamp
+  pub commit : (p a s : ℕ) → p < 64 → IsUndecidedAttempt b.status p a → IsTrueNote h (drew (code p a) s)
+      → ((v : Visited) → Has (t.attempt p a).visits v
+      → ChangesVersion (exchange_of (t.attempt p a)) v.node v.version ⊎ HasPassedByNotes h s v)
       → CanCommit h (code p a) s
   pub withdraw : (p a : ℕ) → p < 64 → IsUndecidedAttempt b.status p a → CanAbort h (code p a) withdrawn
   pub run_out : (p a : ℕ) → p < 64 → IsUndecidedAttempt b.status p a → last_stamp ≤ b.clock
@@ -104,6 +109,10 @@ pub record WordsServe (z : Size) (b : Board) (t : Past) (h : History) : Type 0 w
   -- the attempt is known to be outdated at a node
   pub fail : (p a n : ℕ) → p < 64 → IsUndecidedAttempt b.status p a → IsTrueNote h (outdated (code p a) n)
       → CanAbort h (code p a) (changed n)
+  -- another pass was a rival for a node of it, at one of its stamps
+  pub lock : (p a n v q s : ℕ) → p < 64 → IsUndecidedAttempt b.status p a → Covers (exchange_of (t.attempt p a)) n v → q ≢ p
+      → IsTrueNote h (drew (code p a) s) → IsTrueNote h (rival q n s)
+      → CanAbort h (code p a) (locked n q)
 
 -- what a success does to the words and the plain values
 abbrev pub SuccessesServe : Board → Past → History → Type 0
@@ -142,10 +151,7 @@ pub record BoardTells (b : Board) (t : Past) (h : History) : Type 0 where
   -- an attempt that took effect stands in the run
   pub stands : (p a s : ℕ) → p < 64 → IsTrueNote h (verdict (code p a) (committed s))
       → IsTrueNote h (in_run s (exchange_of (t.attempt p a)))
-  -- an attempt that failed: a version is past, or the clock was at its last stamp
-  pub failed : (p a n old new : ℕ) → p < 64 → (t.attempt p a).visits ≡ []
-      → Has (t.attempt p a).changes (change n Version old new) → IsTrueNote h (verdict (code p a) (aborted (changed n)))
-      → old < t.plain n Version
+  -- one that failed at the clock's end
   pub ran_out : (x : ℕ) → IsTrueNote h (verdict x (aborted ended)) → last_stamp ≤ b.clock
   -- an attempt that rests on the old numbers of its words is outdated where a word has another plain value; and so is
   -- one that failed since a node changed

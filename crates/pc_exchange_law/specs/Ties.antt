@@ -1,6 +1,6 @@
 -- When a history of the protocol of exchanges is that of a board, whose past is remembered: which reference each word
 -- holds, how far each attempt has come, and what it is.
-use Rattle.std.specs.Prelude.{◌≡◌, ℕ, ◌+◌, ◌*◌, ◌/◌, ◌%◌, ◌<◌, ◌≤◌, ◌⊎◌, [], Option, Some, None}
+use Rattle.std.specs.Prelude.{◌≡◌, ℕ, ◌+◌, ◌*◌, ◌/◌, ◌%◌, ◌<◌, ◌≤◌, ◌⊎◌, Option, Some, None}
 use Rattle.pc_model.specs.declared.cell.Field.{Field}
 use Rattle.pc_model.specs.Exchanges.{Changed, Exchange as PathExchange}
 use Rattle.pc_words.specs.declared.word.WordKind.{WordKind}
@@ -56,9 +56,9 @@ pub record SaysOf (s : Status) (a : ℕ) (st : Stage) : Type 0 where
   pub present : a ≡ s.number → IsStageOf s.stage st
   pub later : s.number < a → st ≡ absent
 
--- the exchange that an attempt is to make. Until paths come it reads nothing, and makes no node
+-- the exchange that an attempt is to make. Until slots are used again it makes no node
 abbrev pub exchange_of : Attempt → PathExchange
-exchange_of x = record { visits = x.visits; reads = []; changes = x.changes; fresh = None }
+exchange_of x = record { visits = x.visits; reads = x.reads; changes = x.changes; fresh = None }
 
 pub record IsTied (b : Board) (t : Past) (h : History) : Type 0 where
   pub clock : h.clock ≡ b.clock
@@ -73,6 +73,6 @@ pub record IsTied (b : Board) (t : Past) (h : History) : Type 0 where
   pub published : (p a : ℕ) (x : Changed) → p < 64 → a ≤ (b.status p).number → Has (t.attempt p a).changes x
       → IsPublished (h.stage (code p a))
   pub exchanges : (p a : ℕ) → p < 64 → IsPublished (h.stage (code p a)) → h.op (code p a) ≡ exchange_of (t.attempt p a)
-  -- until paths come no node is a spare, and the clock isn't read after clearing
+  -- until slots are used again no node is a spare, and the clock isn't read after clearing
   pub used : (n : ℕ) → IsUsed (h.slot n)
   pub uncleared : (x : ℕ) → h.cleared_at x ≡ None

@@ -15,6 +15,7 @@ use Rattle.pc_exchange_law.specs.Ties.{code}
 use Rattle.pc_exchange_law.specs.Changes.{with_word, with_status, with_next_stamp, with_values, at_stage, stage_by}
 use Rattle.pc_exchange_law.specs.AttemptSteps.{with_own_word}
 use Rattle.pc_exchange_law.specs.Passes.{PassKnows}
+use Rattle.pc_exchange_law.specs.Paths.{Path}
 use Rattle.pc_exchange_law.specs.ExchangeConditions.{MayStoreOwn, MayPublish, MayDrawFor, MaySucceed, MayFail}
 use Rattle.pc_exchange_law.specs.ExchangeConditions.{MayTakeReference, MayClear}
 
@@ -26,7 +27,7 @@ KeepsViewNotes z b t b' t' = (x : Note) → NoteHolds z b t x → NoteHolds z b'
 pub record ViewNotesStay (form : Form) (z : Size) (id : ℕ) (b : Board) (t : Past) (h : History) (v : View) (k : PassKnows)
     : Type 0 where
   pub stores : (place x : ℕ) → MayStoreOwn k → KeepsViewNotes z b t (with_own_word b id place x) t
-  pub publishes : (x : Attempt) (c : ℕ) (keys : List ℕ) → MayPublish form z k x c keys
+  pub publishes : (path : Path) (x : Attempt) (c : ℕ) (keys : List ℕ) → MayPublish form z k path x c keys
       → let a : ℕ = (b.status id).number + 1 in
       KeepsViewNotes z b t (with_status b id (record { number = a; stage = Undecided }))
       (with_values t t.cells t.plain (put2 t.attempt id a x) (put2 t.words id a (b.word id)))
@@ -36,7 +37,7 @@ pub record ViewNotesStay (form : Form) (z : Size) (id : ℕ) (b : Board) (t : Pa
       → let h' = commit h (code p (b.status p).number) s in
       KeepsViewNotes z b t (with_status b p (at_stage b p (Succeeded s))) (with_values t h'.plain h'.plain t.attempt t.words)
   pub fails : (p : ℕ) (cause : Cause) → p < 64 → IsOpen (b.status p).stage → StageInRange (stage_by cause)
-      → MayFail k p (b.status p).number cause
+      → MayFail v k p (b.status p).number cause
       → KeepsViewNotes z b t (with_status b p (at_stage b p (stage_by cause))) t
   pub withdraws : IsOpen (b.status id).stage → KeepsViewNotes z b t (with_status b id (at_stage b id Withdrawn)) t
   pub takes : (p a n : ℕ) (f : Field) (x : ℕ) → b.cell n f ≡ Exchange p a → p < 64 → MayTakeReference v k p a n f x

@@ -1,6 +1,6 @@
 -- What each kind of step tells a pass whose view is whole: what the rule of installs says of its first part, and what it
 -- learns beside.
-use Rattle.std.specs.Prelude.{◌≡◌, ◌≢◌, ℕ, ◌+◌, ◌<◌, ◌≤◌, ◌⊎◌, Bool, true, false, List, [], ◌∷◌, Some}
+use Rattle.std.specs.Prelude.{◌≡◌, ◌≢◌, ℕ, ◌+◌, ◌*◌, ◌<◌, ◌≤◌, ◌⊎◌, Bool, true, false, List, [], ◌∷◌, Some}
 use Rattle.atomic_table.specs.Table.{Me}
 use Rattle.pc_model.specs.declared.cell.Field.{Field}
 use Rattle.pc_model.specs.declared.cell.Field.TheVariants.{Version}
@@ -13,7 +13,7 @@ use Rattle.pc_words.specs.declared.status.Stage.TheVariants.{Idle, Undecided, Su
 use Rattle.pc_words.specs.declared.status.Status.{Status}
 use Rattle.pc_words.specs.Words.{raw, kind, IsWord}
 use Rattle.pc_words.specs.Statuses.{unpacked, IsStatus}
-use Rattle.pc_rule_law.specs.Board.{own_status, own_install, own_word, Place, at_clock, at_epoch, at_own, at_cell}
+use Rattle.pc_rule_law.specs.Board.{own_status, own_install, own_word, Place, at_clock, at_epoch, at_own, at_cell, place_number}
 use Rattle.pc_history.specs.Footprints.{IsAmong}
 use Rattle.pc_rule_law.specs.Conditions.{IsFree}
 use Rattle.pc_rule_law.specs.Past.{Has, Attempt, Describes}
@@ -21,8 +21,8 @@ use Rattle.pc_rule_law.specs.Views.{Note, decided_below, clean, removed, View, w
 use Rattle.pc_rule_law.specs.Plays.{IsNotedSince, IsLater, IsWell, Told, SameSeat, found, after_store, InstallLoaded, ClockLoaded}
 use Rattle.pc_rule_law.specs.Plays.{DescriptorLoaded as ViewLoaded, StatusLoaded, InstallTried, InstallTaken, after_write, after_publish}
 use Rattle.pc_protocol.specs.Histories.{withdrawn, ended, changed, locked, Stage, absent, undecided, committed, aborted}
-use Rattle.pc_protocol.specs.Notes.{clock_was, visited, verdict, in_run, outdated}
-use Rattle.pc_exchange_law.specs.Attempts.{word_in, calm, calm_but}
+use Rattle.pc_protocol.specs.Notes.{value, by, clock_was, visited, looked, drew, verdict, rival, in_run, outdated}
+use Rattle.pc_exchange_law.specs.Attempts.{word_in, calm, calm_but, KnowsWord, KnowsEntry, KnowsVisit}
 use Rattle.pc_exchange_law.specs.Ties.{code, last_stamp, exchange_of}
 use Rattle.pc_exchange_law.specs.ExchangeConditions.{KnowsCleared}
 use Rattle.pc_exchange_law.specs.Passes.{PassKnows}
@@ -40,10 +40,10 @@ WholeTells m word T m' = (m'.1 ≡ m.1) × SameSeat m.0.view m'.0.view × Told m
 
 -- ---- loads
 
--- the clock: the pass may draw where it is below the last stamp; and where an attempt is known to have failed at the
--- clock's end, it isn't
-pub record ClockSeen (k : PassKnows) (r : ℕ) (k' : PassKnows) : Type 0 where
-  pub noted : k' ≡ after_clock k r k'.ready
+-- the clock: the pass may draw where it is below the last stamp, and all that it visited and read was so by then; and where
+-- an attempt is known to have failed at the clock's end, it isn't below
+pub record ClockSeen (path : Path) (k : PassKnows) (r : ℕ) (k' : PassKnows) : Type 0 where
+  pub noted : k' ≡ after_clock k r (read_of path) k'.ready
   pub early : r < last_stamp → k'.ready ≡ true
   pub late : last_stamp ≤ r → k'.ready ≡ false
   pub ended : (x : ℕ) → Has k.told (verdict x (aborted ended)) → last_stamp ≤ r
@@ -51,7 +51,7 @@ pub record ClockSeen (k : PassKnows) (r : ℕ) (k' : PassKnows) : Type 0 where
   pub above : IsAboveSeen k.told r
 
 abbrev pub SeesClock : Whole → ℕ → Whole → Place → Type 0
-SeesClock x r y at_clock = ClockLoaded x.view r y.view × ClockSeen x.knows r y.knows × (y.aim ≡ x.aim) × (y.path ≡ x.path)
+SeesClock x r y at_clock = ClockLoaded x.view r y.view × ClockSeen x.path x.knows r y.knows × (y.aim ≡ x.aim) × (y.path ≡ x.path)
 SeesClock x r y _ = Unit {0}
 
 -- a word of a descriptor
@@ -129,11 +129,17 @@ StoredWord x r y (at_own i (own_word place)) = i ≡ x.view.seat
     → y ≡ record x { view = after_write x.view place r; knows = after_own_store x.knows place r }
 StoredWord x r y _ = Unit {0}
 
+-- by its mode the exchange of a pass with this path has no visits and reads, or the reads of the path
+pub record CountsReads (path : Path) (e : Attempt) : Type 0 where
+  pub none : e.mode ≡ 0 → (e.visits ≡ []) × (e.reads ≡ [])
+  pub all : e.mode ≢ 0 → e.reads ≡ path.reads
+
 -- the own next attempt is published: it is one that the stored words describe
 abbrev pub HasPublished : Whole → Whole → Place → Type 0
 HasPublished x y (at_own i own_status) = i ≡ x.view.seat
     → (e : Attempt) × (c : ℕ) × Describes x.view.size.slots e (word_in x.knows.own.words) × Has x.knows.told (clock_was c)
     × (y ≡ record x { view = after_publish x.view; knows = after_publication x.knows (code x.view.seat (x.knows.own.number + 1)) (exchange_of e) c })
+    × CountsReads x.path e × IsAboveSeen x.knows.told c
 HasPublished x y _ = Unit {0}
 
 -- the own attempt is cleared
@@ -231,6 +237,34 @@ pub record ReferenceTaken (x : Whole) (n : ℕ) (f : Field) (old new r : ℕ) (y
 abbrev pub TookReference : Whole → ℕ → ℕ → ℕ → Whole → Place → Type 0
 TookReference x old new r y (at_cell n f) = ReferenceTaken x n f old new r y
 TookReference x old new r y _ = Unit {0}
+
+-- ---- a look at a version that an exchange visits, for the stamps that were drawn for it
+
+pub record LookedFor (x : Whole) (n r : ℕ) (y : Whole) : Type 0 where
+  -- at each stamp the version was no greater than the number that is found, or than it is by the exchange whose reference is
+  -- found, whose pass is a rival
+  pub number : (e s w : ℕ) → Has x.knows.told (drew e s) → kind r ≡ Plain w → Has y.knows.told (looked s n (value w))
+  pub reference : (e s q b : ℕ) → Has x.knows.told (drew e s) → kind r ≡ Exchange q b
+      → Has y.knows.told (looked s n (by (code q b))) × Has y.knows.told (rival q n s)
+  -- an attempt is outdated where a greater number is found than the version that it visits, or where it changes the version from
+  -- another one
+  pub greater : (p a s i v w : ℕ) → p < 64 → Has x.knows.told (drew (code p a) s)
+      → KnowsVisit x.view.size.slots x.knows.noted x.view.seat x.knows.own p a i n v → kind r ≡ Plain w → v < w
+      → Has y.knows.told (outdated (code p a) n)
+  pub differs : (p a s i j v old new : ℕ) → p < 64 → Has x.knows.told (drew (code p a) s)
+      → KnowsVisit x.view.size.slots x.knows.noted x.view.seat x.knows.own p a i n v
+      → KnowsEntry x.knows.noted x.view.seat x.knows.own p a j n Version old new → old ≢ v
+      → Has y.knows.told (outdated (code p a) n)
+  -- where a reference of its pass is found, that is at this attempt or at a later one; and the version is one of the words of an
+  -- attempt whose own reference is found
+  pub reached : (p a s b : ℕ) → p < 64 → Has x.knows.told (drew (code p a) s) → kind r ≡ Exchange p b → a ≤ b
+  pub listed : (p a count : ℕ) → p < 64 → kind r ≡ Exchange p a → KnowsWord x.knows.noted x.view.seat x.knows.own p a 1 count
+      → (i : ℕ) × (i < count)
+      × ((place : ℕ) → KnowsWord x.knows.noted x.view.seat x.knows.own p a (3 + 3 * i) place → place ≡ place_number n Version)
+
+abbrev pub LooksFor : Whole → ℕ → Whole → Place → Type 0
+LooksFor x r y (at_cell n Version) = CellSeen x n Version r y × LookedFor x n r y × (y.path ≡ x.path)
+LooksFor x r y _ = Unit {0}
 
 -- ---- paths: what a pass visits and reads, and the read that it makes of it
 

@@ -4,7 +4,7 @@ use Rattle.std.specs.Prelude.{ℕ, Bool}
 use Rattle.atomic_table.specs.Table.{Step}
 use Rattle.pc_exchange_law.specs.WholePlays.{WholeMine, WholeTells, SeesClock, SeesWord, SeesStatus, SeesInstall, SeesCell}
 use Rattle.pc_exchange_law.specs.WholePlays.{StoredInstall, StoredWord, HasPublished, HasCleared, Draws, HasDecided, HasWithdrawn}
-use Rattle.pc_exchange_law.specs.WholePlays.{WholePlaced, WholeTaken, TookReference, SeesRead, SeesVisit, DrawsRead, ChecksVisit}
+use Rattle.pc_exchange_law.specs.WholePlays.{WholePlaced, WholeTaken, TookReference, LooksFor, SeesRead, SeesVisit, DrawsRead, ChecksVisit}
 use Rattle.pc_exchange_law.specs.WholePlays.{BeginsPath, EndsPath}
 use Rattle.pc_exchange_law.specs.Paths.{dropped}
 
@@ -56,6 +56,10 @@ whole_takes st m r m' = WholeTells m st.word (WholeTaken m.0 st.first st.second 
 
 abbrev pub whole_takes_reference : Step Bool → WholeMine → ℕ → WholeMine → Type 0
 whole_takes_reference st m r m' = WholeTells m st.word (TookReference m.0 st.first st.second r) m'
+
+-- a look at a version that an exchange visits
+abbrev pub whole_looks_for : Step Bool → WholeMine → ℕ → WholeMine → Type 0
+whole_looks_for st m r m' = WholeTells m st.word (LooksFor m.0 r) m'
 
 -- loads that count as reads and visits: one visit more, or the first one of a path that begins anew
 abbrev pub whole_reads : Step Bool → WholeMine → ℕ → WholeMine → Type 0

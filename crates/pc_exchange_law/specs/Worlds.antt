@@ -7,11 +7,16 @@ use Rattle.pc_model.specs.Linked.{opening_cells}
 use Rattle.pc_rule_law.specs.Board.{Size, Board}
 use Rattle.pc_rule_law.specs.Past.{Past}
 use Rattle.pc_protocol.specs.Histories.{History, IsPublished}
+use Rattle.pc_protocol.specs.Notes.{saw, IsTrueNote}
 use Rattle.pc_protocol.specs.Rules.{Rule}
 use Rattle.pc_protocol.specs.Bases.{IsBased}
 use Rattle.pc_exchange_law.specs.Ties.{code, exchange_of, IsTied}
 use Rattle.pc_exchange_law.specs.Attempts.{Scripts, AreScripts}
 use Rattle.pc_exchange_law.specs.ClockEnds.{ClockIsBounded}
+
+-- all that the exchange visits and reads was seen to be so before it was published
+abbrev pub HasSeen : History → ℕ → Type 0
+HasSeen h x = IsTrueNote h (saw (h.published_at x) (h.op x))
 
 pub record World (form : Form) (z : Size) (b : Board) (t : Past) (w : Scripts) (h : History) (late : ℕ → Bool)
     : Type 0 where
@@ -27,3 +32,5 @@ pub record World (form : Form) (z : Size) (b : Board) (t : Past) (w : Scripts) (
       → Fits form z.slots (exchange_of (t.attempt p a)) (charged p a)
   -- the words of each exchange had their old numbers at the versions that it covers
   pub based : (x : ℕ) → IsPublished (h.stage x) → IsBased h x
+  -- and what it visits and reads was so before it was published
+  pub seen : (x : ℕ) → IsPublished (h.stage x) → HasSeen h x

@@ -19,7 +19,7 @@ pub use laws::{
 pub use whole::{
     WholeCheck, WholeClear, WholeDecide, WholeDraw, WholeEndPath, WholeFirstVisit, WholeJoinPass,
     WholeLaw, WholeLoadCell, WholeLoadClock, WholeLoadInstall, WholeLoadStatus, WholeLoadWord,
-    WholeMakePass, WholeOpenPath, WholePlace, WholePublish, WholeRead, WholeReadDraw,
+    WholeLookFor, WholeMakePass, WholeOpenPath, WholePlace, WholePublish, WholeRead, WholeReadDraw,
     WholeStoreInstall, WholeStoreWord, WholeTake, WholeTakeReference, WholeView, WholeVisit,
     WholeWithdraw,
 };

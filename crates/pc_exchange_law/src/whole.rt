@@ -5,7 +5,7 @@ ghost use Rattle.pc_exchange_law.specs.WholeSeats.{first_whole, whole_maker, who
 ghost use Rattle.pc_exchange_law.specs.WholeSteps.{whole_loads_clock, whole_loads_word, whole_loads_status, whole_loads_install};
 ghost use Rattle.pc_exchange_law.specs.WholeSteps.{whole_loads_cell, whole_stores_install, whole_stores_word, whole_publishes};
 ghost use Rattle.pc_exchange_law.specs.WholeSteps.{whole_clears, whole_draws, whole_decides, whole_withdraws, whole_places};
-ghost use Rattle.pc_exchange_law.specs.WholeSteps.{whole_takes, whole_takes_reference};
+ghost use Rattle.pc_exchange_law.specs.WholeSteps.{whole_takes, whole_takes_reference, whole_looks_for};
 ghost use Rattle.pc_exchange_law.specs.WholeSteps.{whole_reads, whole_visits, whole_visits_first, whole_draws_read, whole_checks};
 ghost use Rattle.pc_exchange_law.specs.WholeSteps.{whole_begins_path, whole_ends_path};
 ghost use Rattle.pc_rule_law.specs.Tables.{size_of};
@@ -147,6 +147,13 @@ pub struct WholeTakeReference;
 
 impl Play<bool, WholeView> for WholeTakeReference {
     ghost then = { whole_takes_reference };
+}
+
+/// A load of a version that an exchange visits, to check it for the stamps that were drawn for that exchange.
+pub struct WholeLookFor;
+
+impl Play<bool, WholeView> for WholeLookFor {
+    ghost then = { whole_looks_for };
 }
 
 /// A load of a word of a node that counts as a read of the path.

@@ -86,8 +86,8 @@ none_formed : (slots : ℕ) → IsFormed slots (attempt_of [])
 none_formed slots = record {
   few = omega arith;
   few_visits = omega arith;
-  no_visits = refl;
   inside = λ x has. absurd (none_has x has);
+  visited = λ x has. absurd (none_has x has);
   apart = λ i j x y at. absurd (some-ne-none x (sym at));
 }
 

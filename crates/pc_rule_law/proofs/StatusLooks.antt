@@ -8,8 +8,7 @@ use mathlib.Core.Option.{none}
 use native.Mathlib.Decide.{ℕ_discrete}
 use Rattle.atomic_table.specs.Table.{step, Allows}
 use Rattle.pc_model.specs.declared.cell.Field.{Field}
-use Rattle.pc_model.specs.Cells.{Cells}
-use Rattle.pc_model.specs.Exchanges.{Visited}
+use Rattle.pc_model.specs.Cells.{Cells, IsNode}
 use Rattle.pc_words.specs.declared.word.WordKind.{WordKind}
 use Rattle.pc_words.specs.declared.word.WordKind.TheVariants.{Plain, Install, Exchange}
 use Rattle.pc_words.specs.declared.status.Stage.{Stage}
@@ -19,7 +18,7 @@ use Rattle.pc_words.specs.Words.{raw}
 use Rattle.pc_words.specs.Statuses.{packed, unpacked}
 use Rattle.pc_words.proofs.Statuses.{unpacked_packed}
 use Rattle.pc_rule_law.specs.Board.{Size, own_status, at_own, address, Inside, Board}
-use Rattle.pc_rule_law.specs.Past.{Has, Past, placing_word}
+use Rattle.pc_rule_law.specs.Past.{Has, Past, placing_word, visits_begin}
 use Rattle.pc_rule_law.specs.Stages.{IsIdle, IsOpen, IsUndecided, decided_from, decided_by, IsCleared}
 use Rattle.pc_rule_law.specs.Views.{Note, entry, install_word, early, decided_below, held, clean, word_loaded, attempt_word, View, IsClean, NoteHolds, AllNotes, with_notes}
 use Rattle.pc_rule_law.specs.Rule.{CellOk, Known, Shared, Holds}
@@ -238,10 +237,11 @@ module _ (sound : ℕ → Cells → Type 0) (z : Size) (b : Board) (h : Past) (f
   count_ranged p count busy g = let e = sym (word_stands p 1 count busy g) ∙ (s.described p (b.status p).number).changes in
       let few = (s.formed p (b.status p).number).few in omega arith
 
-  visits_none : (p count : ℕ) → (IsIdle (b.status p).stage → ⊥) → NoteHolds z b h (word_loaded p (b.status p).number 2 count) → count ≡ 0
+  visits_ranged : (p count : ℕ) → (IsIdle (b.status p).stage → ⊥) → NoteHolds z b h (word_loaded p (b.status p).number 2 count)
+      → count ≤ z.slots + 1
   unfolding word_stands
-  visits_none p count busy g = sym (word_stands p 2 count busy g) ∙ ((s.described p (b.status p).number).visits
-      ∙ ap (λ (l : List Visited). length l) (s.formed p (b.status p).number).no_visits)
+  visits_ranged p count busy g = let e = sym (word_stands p 2 count busy g) ∙ (s.described p (b.status p).number).visits in
+      let few = (s.formed p (b.status p).number).few_visits in omega arith
 
   change_ranged : (p count i place old new : ℕ) → (IsIdle (b.status p).stage → ⊥) → NoteHolds z b h (word_loaded p (b.status p).number 1 count)
       → i < count → NoteHolds z b h (word_loaded p (b.status p).number (3 + 3 * i) place)
@@ -256,6 +256,20 @@ module _ (sound : ℕ → Cells → Type 0) (z : Size) (b : Board) (h : Past) (f
         (x.0.node, x.0.field, sym (word_stands p (3 + 3 * i) place busy at_place) ∙ words.0, inside.0),
         subst (λ (y : ℕ). y < 2 ^ 62) (sym words.1 ∙ word_stands p (4 + 3 * i) old busy at_old) inside.1,
         subst (λ (y : ℕ). y < 2 ^ 62) (sym words.2 ∙ word_stands p (5 + 3 * i) new busy at_new) inside.2,
+      )
+
+  visit_ranged : (p count i node found : ℕ) → (IsIdle (b.status p).stage → ⊥) → NoteHolds z b h (word_loaded p (b.status p).number 2 count)
+      → i < count → NoteHolds z b h (word_loaded p (b.status p).number (visits_begin z.slots + 2 * i) node)
+      → NoteHolds z b h (word_loaded p (b.status p).number (visits_begin z.slots + (1 + 2 * i)) found)
+      → IsNode z.slots node × (found < 2 ^ 62)
+  unfolding word_stands
+  visit_ranged p count i node found busy counted lt at_node at_version = let d = s.described p (b.status p).number in
+      let e = sym (word_stands p 2 count busy counted) ∙ d.visits in
+      let x = element_at (h.attempt p (b.status p).number).visits i (subst (λ (m : ℕ). i < m) e lt) in
+      let words = d.each_visit i x.0 x.1 in
+      let inside = (s.formed p (b.status p).number).visited x.0 (i, x.1) in (
+        subst (λ (y : ℕ). IsNode z.slots y) (sym words.0 ∙ word_stands p (visits_begin z.slots + 2 * i) node busy at_node) inside.0,
+        subst (λ (y : ℕ). y < 2 ^ 62) (sym words.1 ∙ word_stands p (visits_begin z.slots + (1 + 2 * i)) found busy at_version) inside.1,
       )
 
   -- what a load of a status adds to what the pass knows
@@ -309,12 +323,20 @@ module _ (sound : ℕ → Cells → Type 0) (z : Size) (b : Board) (h : Past) (f
             (has_only_if (nat_lt a to) (clean p a n f) (lt-ltb a to (below_cleared (b.status p) a over)))))))));
         counts = λ busy count has. subst (λ (y : Size). count ≤ 25 + y.slots) (sym (mine.own live).sized)
             (count_ranged p count busy (good (word_loaded p m 1 count) has));
-        visits = λ busy count has. visits_none p count busy (good (word_loaded p m 2 count) has);
+        visits = λ busy count has. subst (λ (y : Size). count ≤ y.slots + 1) (sym (mine.own live).sized)
+            (visits_ranged p count busy (good (word_loaded p m 2 count) has));
         changes = λ busy count i place old new counted below has_place has_old has_new.
             subst (λ (y : Size). IsPlaceIn y.slots place × (old < 2 ^ 62) × (new < 2 ^ 62)) (sym (mine.own live).sized)
             (change_ranged p count i place old new busy (good (word_loaded p m 1 count) counted) below
             (good (word_loaded p m (3 + 3 * i) place) has_place) (good (word_loaded p m (4 + 3 * i) old) has_old)
             (good (word_loaded p m (5 + 3 * i) new) has_new));
+        visited = subst (λ (y : Size). (IsIdle (b.status p).stage → ⊥) → (count i node found : ℕ) → Has v.notes (word_loaded p m 2 count)
+            → i < count → Has v.notes (word_loaded p m (visits_begin y.slots + 2 * i) node)
+            → Has v.notes (word_loaded p m (visits_begin y.slots + (1 + 2 * i)) found) → IsNode y.slots node × (found < 2 ^ 62))
+            (sym (mine.own live).sized)
+            (λ busy count i node found counted below has_node has_version. visit_ranged p count i node found busy
+            (good (word_loaded p m 2 count) counted) below (good (word_loaded p m (visits_begin z.slots + 2 * i) node) has_node)
+            (good (word_loaded p m (visits_begin z.slots + (1 + 2 * i)) found) has_version));
         own = λ seat none'. let own = mine.own live in let t = (mine.tries live none').1 in let self : p ≡ id = seat ∙ own.seated.0 in
             subst (λ (q : ℕ). ((b.status q).number ≡ v.attempt.number) × (v.attempt.published ≡ false → IsIdle (b.status q).stage)
             × (v.attempt.published ≡ true → IsIdle (b.status q).stage → ⊥)) (sym self) (t.number, t.resting, t.running);

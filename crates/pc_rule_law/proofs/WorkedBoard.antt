@@ -110,8 +110,8 @@ one_formed : (slots : ℕ) (x : Changed) → IsNode slots x.node → x.old < 2 ^
 one_formed slots x in_n old new = record {
   few = omega arith;
   few_visits = omega arith;
-  no_visits = refl;
   inside = all_one (λ y. IsNode slots y.node × (y.old < 2 ^ 62) × (y.new < 2 ^ 62)) x (in_n, old, new);
+  visited = λ y has. absurd (none_has y has);
   apart = λ i j y w at_i at_j _ _. first i y at_i ∙ sym (first j w at_j);
 }
   where
@@ -129,8 +129,8 @@ given_formed (suc (suc (suc zero))) = one_formed 4 (change 1 Spare 0 1) (omega a
 given_formed (suc (suc (suc (suc p)))) = record {
   few = omega arith;
   few_visits = omega arith;
-  no_visits = refl;
   inside = λ x has. absurd (none_has x has);
+  visited = λ x has. absurd (none_has x has);
   apart = λ i j x y at. absurd (some-ne-none x (sym at));
 }
 

@@ -35,7 +35,7 @@ opening_changes (x ∷ xs) zero = x.places
 opening_changes (x ∷ xs) (suc p) = opening_changes xs p
 
 abbrev pub attempt_of : List Changed → Attempt
-attempt_of changes = record { mode = 0; changes = changes; visits = [] }
+attempt_of changes = record { mode = 0; changes = changes; visits = []; reads = [] }
 
 abbrev pub opening_attempt : List Posted → ℕ → ℕ → Attempt
 opening_attempt posted p zero = attempt_of []

@@ -6,7 +6,7 @@ use mathlib.Core.Option.{some}
 use lib.ListN.{get_elem?}
 use Rattle.pc_model.specs.declared.cell.Field.{Field}
 use Rattle.pc_model.specs.Cells.{Cells, IsNode}
-use Rattle.pc_model.specs.Exchanges.{Changed, Visited}
+use Rattle.pc_model.specs.Exchanges.{Changed, Visited, Seen}
 use Rattle.pc_words.specs.declared.word.WordKind.TheVariants.{Exchange}
 use Rattle.pc_words.specs.Words.{raw}
 use Rattle.pc_rule_law.specs.Board.{place_number}
@@ -15,11 +15,13 @@ use Rattle.pc_rule_law.specs.Board.{place_number}
 abbrev pub Has : {X : Type 0} → List X → X → Type 0
 Has xs x = (k : ℕ) × (get_elem? xs k ≡ some x)
 
--- what an attempt of a pass is to do: how it checks its path, which words it changes, and which nodes it visited
+-- what an attempt of a pass is to do: how it checks its path, which words it changes, which nodes it visited, and which words
+-- of them it read, of which no word of a descriptor speaks
 pub record Attempt : Type 0 where
   pub mode : ℕ
   pub changes : List Changed
   pub visits : List Visited
+  pub reads : List Seen
 
 -- the change of a word from one number to another
 abbrev pub change : ℕ → Field → ℕ → ℕ → Changed
@@ -74,13 +76,12 @@ pub record Describes (slots : ℕ) (a : Attempt) (word : ℕ → ℕ) : Type 0 w
   pub each_visit : (i : ℕ) (x : Visited) → get_elem? a.visits i ≡ some x
       → (word (visits_begin slots + 2 * i) ≡ x.node) × (word (visits_begin slots + (1 + 2 * i)) ≡ x.version)
 
--- what holds of every attempt: it fits the descriptor, its words are of the board, its numbers fit a word, and it has
--- each word once
+-- what holds of every attempt: it fits the descriptor, its words and the nodes that it visited are of the board, its numbers
+-- fit a word, and it has each word once
 pub record IsFormed (slots : ℕ) (a : Attempt) : Type 0 where
   pub few : length a.changes ≤ 25 + slots
   pub few_visits : length a.visits ≤ slots + 1
-  -- until paths come none is checked
-  pub no_visits : a.visits ≡ []
   pub inside : (x : Changed) → Has a.changes x → IsNode slots x.node × (x.old < 2 ^ 62) × (x.new < 2 ^ 62)
+  pub visited : (x : Visited) → Has a.visits x → IsNode slots x.node × (x.version < 2 ^ 62)
   pub apart : (i j : ℕ) (x y : Changed) → get_elem? a.changes i ≡ some x → get_elem? a.changes j ≡ some y
       → x.node ≡ y.node → x.field ≡ y.field → i ≡ j

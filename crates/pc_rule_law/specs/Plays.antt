@@ -12,7 +12,7 @@ use Rattle.pc_words.specs.declared.status.Status.{Status}
 use Rattle.pc_words.specs.Words.{raw, kind, IsWord}
 use Rattle.pc_words.specs.Statuses.{unpacked, IsStatus}
 use Rattle.pc_rule_law.specs.Board.{own_status, own_install, own_word, Place, at_clock, at_own, at_cell, address, Inside, place_number}
-use Rattle.pc_rule_law.specs.Past.{Has}
+use Rattle.pc_rule_law.specs.Past.{Has, visits_begin}
 use Rattle.pc_rule_law.specs.Stages.{IsIdle, IsOpen, decided_by, IsCleared}
 use Rattle.pc_rule_law.specs.Views.{Note, version, entry, placed, loaded, install_word, early, removed, decided_below, held, clean, clock_at, word_loaded, attempt_word, had, OwnInstall, View, NoteInRange, AllNotes, with_notes}
 
@@ -178,12 +178,16 @@ pub record StatusLoaded (v : View) (p : ℕ) (s : Status) (w : View) : Type 0 wh
       → Has w.notes (attempt_word p s.number place x)
   pub words_below : (a place x : ℕ) → Has v.notes (attempt_word p a place x) → a ≤ s.number
   pub cleared : (a n : ℕ) (f : Field) → Has v.notes (held p a n f) → IsCleared s a → Has w.notes (clean p a n f)
-  -- and it is in range: the number of changes and of visits, and the words of each change
+  -- and it is in range: the number of changes and of visits, and the words of each change and of each visit
   pub counts : (IsIdle s.stage → ⊥) → (count : ℕ) → Has v.notes (word_loaded p s.number 1 count) → count ≤ 25 + v.size.slots
-  pub visits : (IsIdle s.stage → ⊥) → (count : ℕ) → Has v.notes (word_loaded p s.number 2 count) → count ≡ 0
+  pub visits : (IsIdle s.stage → ⊥) → (count : ℕ) → Has v.notes (word_loaded p s.number 2 count) → count ≤ v.size.slots + 1
   pub changes : (IsIdle s.stage → ⊥) → (count i place old new : ℕ) → Has v.notes (word_loaded p s.number 1 count) → i < count
       → Has v.notes (word_loaded p s.number (3 + 3 * i) place) → Has v.notes (word_loaded p s.number (4 + 3 * i) old)
       → Has v.notes (word_loaded p s.number (5 + 3 * i) new) → IsPlaceIn v.size.slots place × (old < 2 ^ 62) × (new < 2 ^ 62)
+  pub visited : (IsIdle s.stage → ⊥) → (count i node found : ℕ) → Has v.notes (word_loaded p s.number 2 count) → i < count
+      → Has v.notes (word_loaded p s.number (visits_begin v.size.slots + 2 * i) node)
+      → Has v.notes (word_loaded p s.number (visits_begin v.size.slots + (1 + 2 * i)) found)
+      → IsNode v.size.slots node × (found < 2 ^ 62)
   pub own : p ≡ v.seat → v.posted ≡ false → (s.number ≡ v.attempt.number)
       × (v.attempt.published ≡ false → IsIdle s.stage) × (v.attempt.published ≡ true → IsIdle s.stage → ⊥)
 
