@@ -44,7 +44,7 @@ module _ {H : Type 0} {S : Ghosts H} where
     subst (λ s. s < (board_size b).seats) (sym same.2) of.2,
     same.5,
     subst (λ n. get_elem? b.shares.items n ≡ some (share_of q)) (sym same.2) (subst (λ s. get_elem? b.shares.items (view p).seat ≡ some s) (sym same.6) of.4),
-    subst (λ s. length (recorded q) ≤ s.calls) (sym same.6) (subst (λ n. n ≤ (share_of p).calls) (ap (λ v. length v.items) (sym same.7)) of.5),
+    subst (λ s. length (recorded q) ≤ s.calls) (sym same.6) (subst (λ n. n ≤ (share_of p).calls) (ap (λ r. length r.entries.items) (sym same.7)) of.5),
   )
 
   -- and where it can take in the others, it still can
@@ -52,7 +52,7 @@ module _ {H : Type 0} {S : Ghosts H} where
   AtEnd b i p = i + 1 ≡ (board_size b).seats → ((view p).last ≡ true) × ((view p).rest ≡ i) × HasRoomFor b.shares.items p
 
   end_stays : (b : Board H) (i : ℕ) (p q : Pass H S) → AtEnd b i p → IsSeatedAs p q → AtEnd b i q
-  end_stays b i p q at same e = let l = at e in (same.3 ∙ l.0, same.4 ∙ l.1, subst (λ v. calls_of b.shares.items ≤ vec_capacity v) (sym same.7) l.2)
+  end_stays b i p q at same e = let l = at e in (same.3 ∙ l.0, same.4 ∙ l.1, subst (λ r. calls_of b.shares.items ≤ vec_capacity r.entries) (sym same.7) l.2)
 
   -- the same passes are all those of the board again, once no install stands
   pub all_again : (b : Board H) (old new : List (Pass H S)) → AreAll b old → AreSame old new → AreFree new → AreAll b new

@@ -88,10 +88,10 @@ never_both : (s : ℕ) (cause : Cause) → committed s ≡ aborted cause → ⊥
 never_both s cause e = cc
 
 -- the words that a board leaves say the cells that its run leaves
-pub run_left : {H : Type 0} {S : Ghosts H} (c : Closed H S) (b : Board H) (form : Form) (k : PassKnows) (words : List ℕ) → words_left c ≡ words
-    → closed_size c ≡ board_size b → IsWholeClosed form (board_size b) k words
+pub run_left : {H : Type 0} {S : Ghosts H} (c : Closed H S) (b : Board H) (k : PassKnows) (words : List ℕ) → words_left c ≡ words
+    → closed_size c ≡ board_size b → IsWholeClosed S.form (board_size b) k words
     → (passes : List (Pass H S)) → told_by passes ≡ k.told → IsLeftByRun c (opening_cells (board_size b).starts.version) passes
-run_left c b form k words left sized w passes told = record {
+run_left {S = S} c b k words left sized w passes told = record {
   begin = w.history.opening;
   begins = w.begins;
   run = run_up_to w.history;
@@ -99,10 +99,12 @@ run_left c b form k words left sized w passes told = record {
   leaves = subst (λ (l : List ℕ). (n : ℕ) (f : Field) → IsNode (closed_size c).slots n → HasPlainValue (board_in (closed_size c) l) n f (cells_after w.history.opening (run_up_to w.history) n f)) (sym left)
       (subst (λ (z : Size). (n : ℕ) (f : Field) → IsNode z.slots n → HasPlainValue (board_in z words) n f (cells_after w.history.opening (run_up_to w.history) n f)) (sym sized)
       (λ n f node. subst (λ (x : ℕ). HasPlainValue (board_in (board_size b) words) n f x) (sym (w.leaves n f))
-      (left_has (IsSound form) (board_size b) words w.closed n f node)));
+      (left_has (IsSound S.form) (board_size b) words w.closed n f node)));
   maker = λ s. maker_of (w.history.drawn_for s);
   once = λ x y i x_in y_in of_x of_y. same_stamp x.stamp y.stamp (sym (w.run.made x i x_in of_x) ∙ w.run.made y i y_in of_y);
   unmade = w.run.unmade;
+  sound = subst (λ (n : ℕ). IsSound S.form n (cells_after w.history.opening (run_up_to w.history))) (sym (ap (λ (z : Size). z.slots) sized))
+      (subst (IsSound S.form (board_size b).slots) (λ i n f. sym (w.leaves n f) i) w.closed.sound_cells);
   won = λ p a s before e few is done. let true_of : (x : Note) → Has (told_by passes) x → IsTrueNote w.history x = λ x has. w.told x (subst (λ (l : List Note). Has l x) told has) in
       let known = true_of (published (code p a) e before) is in
       let won : w.history.stage (code p a) ≡ committed s = (true_of (verdict (code p a) (committed s)) done).0 in (

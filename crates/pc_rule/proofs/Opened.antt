@@ -17,7 +17,7 @@ use Rattle.pc_rule.specs.declared.board.Board.{Board}
 use Rattle.pc_rule.specs.declared.board.Pass.{Pass}
 use Rattle.pc_rule.specs.declared.share.Share.{Share}
 use Rattle.pc_rule.specs.declared.visit.Visit.{Visit}
-use Rattle.pc_rule.specs.Passes.{whole, view, knows, board_size, recorded, listed, visits, IsPassOf}
+use Rattle.pc_rule.specs.Passes.{whole, view, knows, board_size, listed, visits, IsBlank, IsPassOf}
 use Rattle.pc_rule.specs.Opened.{last_whole, AreOpened}
 use Rattle.pc_rule.specs.Recorded.{HaveShares}
 use Rattle.pc_rule.specs.Shares.{AreAll, AllNoted, NoneInstalled, NoneTried, NoneVisited, KnowNothing}
@@ -34,7 +34,7 @@ module _ {H : Type 0} {S : Ghosts H} (b : Board H) (o : Opening) where
     nothing : knows p ≡ knows_nothing (view p).size.starts.attempt
     attempt : (view p).attempt ≡ opening_own (size_of o)
     install : (view p).install ≡ opening_install (size_of o)
-    none : recorded p ≡ []
+    none : IsBlank p
     unlisted : listed p ≡ []
     path : (whole p).path ≡ new_path
 

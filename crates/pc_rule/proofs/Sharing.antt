@@ -24,8 +24,8 @@ pub none_formed : (slots : ℕ) → IsFormed slots (attempt_of [])
 none_formed slots = record {
   few = omega arith;
   few_visits = omega arith;
-  no_visits = refl;
   inside = λ x h. absurd (some-ne-none x (sym h.1));
+  visited = λ x h. absurd (some-ne-none x (sym h.1));
   apart = λ i j x y at_x at_y node field. absurd (some-ne-none x (sym at_x));
 }
 

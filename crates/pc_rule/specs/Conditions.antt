@@ -12,9 +12,10 @@ use Rattle.pc_rule_law.specs.Past.{Attempt, Has, Describes}
 use Rattle.pc_rule_law.specs.Views.{View, word_in}
 use Rattle.pc_rule_law.specs.Conditions.{CanPlace, CanTake}
 use Rattle.pc_exchange_law.specs.ExchangeConditions.{MayPublish as CanPublish}
-use Rattle.pc_exchange_law.specs.Knowing.{after_publication}
+use Rattle.pc_exchange_law.specs.Knowing.{IsAboveSeen, after_publication}
 use Rattle.pc_exchange_law.specs.Passes.{PassKnows}
 use Rattle.pc_exchange_law.specs.Ties.{code, exchange_of}
+use Rattle.pc_exchange_law.specs.WholePlays.{CountsReads}
 use Rattle.pc_exchange_law.specs.Wholes.{Whole}
 use Rattle.pc_protocol.specs.Notes.{clock_was}
 
@@ -28,12 +29,12 @@ MayTakeInstall z v n f old new = (q : ℕ) × (k : ℕ) × (c : WordKind) × (ol
 
 -- the new status says that the own next attempt is undecided, whose words are stored, and which raises its nodes and keeps
 -- cells sound; and the clock was loaded
-abbrev pub MayPublish : Form → Size → PassKnows → ℕ → Type 0
-MayPublish form z k new = (e : Attempt) × (c : ℕ) × (keys : List ℕ)
-    × (new ≡ packed (record { number = k.own.number + 1; stage = Undecided })) × CanPublish form z k e c keys
+abbrev pub MayPublish : Form → Size → Whole → ℕ → Type 0
+MayPublish form z x new = (e : Attempt) × (c : ℕ) × (keys : List ℕ)
+    × (new ≡ packed (record { number = x.knows.own.number + 1; stage = Undecided })) × CanPublish form z x.knows x.path e c keys
 
 -- what the pass knows beside its view after it published: that its next attempt is an exchange, which the stored words describe,
--- and which was published with a clock that was loaded before
+-- and which was published with a clock that was loaded before, above each stamp that the pass had seen; and its reads go by its mode
 abbrev pub KnowsPublished : Whole → PassKnows → Type 0
 KnowsPublished x k = (e : Attempt) × (c : ℕ) × Describes x.view.size.slots e (word_in x.knows.own.words) × Has x.knows.told (clock_was c)
-    × (k ≡ after_publication x.knows (code x.view.seat (x.knows.own.number + 1)) (exchange_of e) c)
+    × (k ≡ after_publication x.knows (code x.view.seat (x.knows.own.number + 1)) (exchange_of e) c) × CountsReads x.path e × IsAboveSeen x.knows.told c

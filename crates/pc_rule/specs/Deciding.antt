@@ -6,17 +6,24 @@ use Rattle.pc_words.specs.declared.status.Stage.TheVariants.{Idle, Undecided, Su
 use Rattle.pc_words.specs.Statuses.{packed, StageInRange}
 use Rattle.pc_words.specs.Words.{raw}
 use Rattle.pc_rule_law.specs.Board.{Size}
+use Rattle.pc_rule_law.specs.Past.{Has}
 use Rattle.pc_rule_law.specs.Views.{IsAttempt}
 use Rattle.pc_protocol.specs.Histories.{Cause}
+use Rattle.pc_protocol.specs.Notes.{drew}
 use Rattle.pc_exchange_law.specs.Changes.{stage_by}
 use Rattle.pc_exchange_law.specs.ExchangeConditions.{MayDrawFor, MaySucceed, MayFail, MayTakeReference, MayClear}
 use Rattle.pc_exchange_law.specs.Passes.{PassKnows}
+use Rattle.pc_exchange_law.specs.Ties.{code}
 use Rattle.pc_exchange_law.specs.Wholes.{Whole}
 use Rattle.pc_rule.specs.declared.refs.Ref.{Ref}
 
 -- the pass aims at the exchange, and may draw for it
 abbrev pub MayDraw : Whole → Ref → Type 0
 MayDraw x op = (x.aim ≡ (op.seat, op.number)) × MayDrawFor x.view x.knows op.seat op.number
+
+-- a stamp was drawn for the exchange, as the pass knows
+abbrev pub HasDrawnFor : PassKnows → Ref → Type 0
+HasDrawnFor k op = (s : ℕ) × Has k.told (drew (code op.seat op.number) s)
 
 -- the status says that attempt a took effect at a stamp, as the pass knows that it may
 abbrev pub SaysItSucceeded : Whole → ℕ → ℕ → ℕ → Type 0
@@ -25,7 +32,7 @@ SaysItSucceeded x p a new = (s : ℕ) × (new ≡ packed (record { number = a; s
 -- the status says that attempt a failed, for a cause of which the pass knows
 abbrev pub SaysItFailed : Whole → ℕ → ℕ → ℕ → Type 0
 SaysItFailed x p a new = (cause : Cause) × (new ≡ packed (record { number = a; stage = stage_by cause })) × StageInRange (stage_by cause)
-    × MayFail x.knows p a cause
+    × MayFail x.view x.knows p a cause
 
 -- the old status says that an attempt of the pass at seat p is undecided, and the new one that it took effect or failed
 abbrev pub MayDecide : Size → Whole → ℕ → ℕ → ℕ → Type 0

@@ -5,6 +5,7 @@ use Rattle.pc_model.specs.declared.cell.Field.{Field}
 use Rattle.pc_model.specs.declared.shape.Shape.{Ghosts}
 use Rattle.pc_model.specs.Cells.{Cells, IsNode}
 use Rattle.pc_model.specs.Exchanges.{Exchange}
+use Rattle.pc_model.specs.Forms.{IsSound}
 use Rattle.pc_history.specs.Footprints.{IsAmong}
 use Rattle.pc_history.specs.WorldRuns.{Stamped, IsWorldRun, cells_after}
 use Rattle.pc_words.specs.declared.word.WordKind.TheVariants.{Install}
@@ -37,7 +38,7 @@ module _ {H : Type 0} {S : Ghosts H} where
   told_by [] = []
   told_by (p ∷ passes) = (knows p).told ++ told_by passes
 
-  -- The words that are left say the cells that a run leaves from these: exchanges by rising stamps, each of which stands in
+  -- The words that are left say the cells that a run leaves from these, and they are sound: exchanges by rising stamps, each of which stands in
   -- the cells that the earlier ones leave. Each is of one attempt, which stands in it once, or it changes nothing. An attempt of
   -- which the passes have noted its exchange, and that it took effect, stands in it at its stamp, which isn't below the clock
   -- that was read before its publication; one of which they have noted
@@ -48,6 +49,8 @@ module _ {H : Type 0} {S : Ghosts H} where
     pub run : List Stamped
     pub stands : IsWorldRun begin 0 run
     pub leaves : LeavesCells c (cells_after begin run)
+    -- which are sound for the shape
+    pub sound : IsSound S.form (closed_size c).slots (cells_after begin run)
     -- the attempt that stands at a stamp, if it is an attempt
     pub maker : ℕ → Option ℕ
     pub once : (x y : Stamped) (i : ℕ) → IsAmong x run → IsAmong y run → maker x.stamp ≡ Some i → maker y.stamp ≡ Some i

@@ -1,5 +1,6 @@
 pub mod Attempts
 pub mod Calls
+pub mod Carrying
 pub mod Closed
 pub mod Conditions
 pub mod Deciding

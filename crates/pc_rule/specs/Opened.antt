@@ -12,7 +12,7 @@ use Rattle.pc_exchange_law.specs.Wholes.{Whole, knows_nothing}
 use Rattle.pc_exchange_law.specs.WholeSeats.{whole_maker}
 use Rattle.pc_rule.specs.declared.board.Board.{Board}
 use Rattle.pc_rule.specs.declared.board.Pass.{Pass}
-use Rattle.pc_rule.specs.Passes.{whole, view, recorded, listed, IsPassOf}
+use Rattle.pc_rule.specs.Passes.{whole, view, listed, IsBlank, IsPassOf}
 use Rattle.pc_rule.specs.Recorded.{HasRoomFor}
 
 -- what the last pass that was made knows, at its seat
@@ -20,19 +20,19 @@ abbrev pub last_whole : Opening → ℕ → Whole
 last_whole o i = record { view = new_view (size_of o) i false []; knows = knows_nothing o.starts.attempt; aim = (0, 0); path = new_path }
 
 module _ {H : Type 0} {S : Ghosts H} where
-  -- these passes have the seats from 0 on, none is the last one, and none recorded a call or lists a word
+  -- these passes have the seats from 0 on, none is the last one, and none recorded a call, takes one along or lists a word
   abbrev pub AreMade : Board H → Opening → List (Pass H S) → Type 0
-  AreMade b o passes = (i : ℕ) (p : Pass H S) → get_elem? passes i ≡ some p → IsPassOf b p × (whole p ≡ whole_maker (last_whole o i)) × (recorded p ≡ []) × (listed p ≡ [])
+  AreMade b o passes = (i : ℕ) (p : Pass H S) → get_elem? passes i ≡ some p → IsPassOf b p × (whole p ≡ whole_maker (last_whole o i)) × IsBlank p × (listed p ≡ [])
 
-  -- the last pass that was made: it knows that it is, recorded no call, lists no word, and has room for all calls where it has the
+  -- the last pass that was made: it knows that it is, recorded no call, takes none along, lists no word, and has room for all calls where it has the
   -- highest seat
   abbrev pub IsLastMade : Board H → Opening → ℕ → Pass H S → Type 0
-  IsLastMade b o i p = IsPassOf b p × (whole p ≡ last_whole o i) × (recorded p ≡ []) × (i + 1 ≡ o.seats → HasRoomFor b.shares.items p) × (listed p ≡ [])
+  IsLastMade b o i p = IsPassOf b p × (whole p ≡ last_whole o i) × IsBlank p × (i + 1 ≡ o.seats → HasRoomFor b.shares.items p) × (listed p ≡ [])
 
   -- all passes of the board: one for each seat, in order, and the last one knows that it is
   abbrev pub AreOpened : Board H → Opening → List (Pass H S) → Type 0
   AreOpened b o passes = (length passes ≡ o.seats)
-      × ((i : ℕ) (p : Pass H S) → get_elem? passes i ≡ some p → (i + 1 < o.seats → IsPassOf b p × (whole p ≡ whole_maker (last_whole o i)) × (recorded p ≡ []) × (listed p ≡ [])) × (i + 1 ≡ o.seats → IsLastMade b o i p))
+      × ((i : ℕ) (p : Pass H S) → get_elem? passes i ≡ some p → (i + 1 < o.seats → IsPassOf b p × (whole p ≡ whole_maker (last_whole o i)) × IsBlank p × (listed p ≡ [])) × (i + 1 ≡ o.seats → IsLastMade b o i p))
 
   -- passes with the seats from 0 on, of which no install stands
   abbrev pub AreInOrder : Board H → List (Pass H S) → Type 0

@@ -1,5 +1,5 @@
 -- What clauses say of a board and its passes.
-use Rattle.std.specs.Prelude.{◌≡◌, ℕ, ◌<◌, ◌≤◌, List, length}
+use Rattle.std.specs.Prelude.{◌≡◌, ℕ, ◌+◌, ◌<◌, ◌≤◌, List, [], length, Option, None, vec_capacity}
 use mathlib.Core.Option.{some}
 use lib.ListN.{get_elem?}
 use Rattle.pc_model.specs.declared.call.Entry.{Entry}
@@ -15,8 +15,10 @@ use Rattle.pc_exchange_law.specs.Wholes.{Whole}
 use Rattle.pc_rule.specs.declared.board.Board.{Board}
 use Rattle.pc_rule.specs.declared.board.Pass.{Pass}
 use Rattle.pc_rule.specs.declared.opening.Place.{Place}
+use Rattle.pc_rule.specs.declared.records.Carried.{Carried}
 use Rattle.pc_rule.specs.declared.share.Share.{Share}
 use Rattle.pc_rule.specs.declared.visit.Visit.{Visit}
+use Rattle.pc_rule.specs.Carrying.{entries_of}
 use Rattle.pc_rule.specs.Walking.{path_with}
 
 module _ {H : Type 0} where
@@ -57,7 +59,19 @@ module _ {H : Type 0} {S : Ghosts H} where
   share_of p = p.share
 
   abbrev pub recorded : Pass H S → List Entry
-  recorded p = p.entries.items
+  recorded p = p.records.entries.items
+
+  -- the call that its running operation is to record
+  abbrev pub carried : Pass H S → Option Carried
+  carried p = p.records.carried
+
+  -- it recorded nothing, and is to record nothing
+  abbrev pub IsBlank : Pass H S → Type 0
+  IsBlank p = (recorded p ≡ []) × (carried p ≡ None)
+
+  -- what is recorded of that at a stamp, as the next one of its calls
+  abbrev pub taken_down : Pass H S → ℕ → List Entry
+  taken_down p s = entries_of ((view p).seat + 1) (length (recorded p) + 1) s (carried p)
 
   -- the words that its exchange is to change: the next one's, and those of the one that is published
   abbrev pub listed : Pass H S → List Place
@@ -72,11 +86,11 @@ module _ {H : Type 0} {S : Ghosts H} where
   IsPassOf b p = (p.seat.table_id ≡ b.table.shared.table_id) × ((view p).size ≡ board_size b) × ((view p).seat < (board_size b).seats) × IsWell (view p)
       × (get_elem? b.shares.items (view p).seat ≡ some (share_of p)) × (length (recorded p) ≤ (share_of p).calls)
 
-  -- the pass is where it was, on the same board, with the same share and the same calls recorded
+  -- the pass is where it was, on the same board, with the same share, the same calls recorded, and the same one to record
   abbrev pub IsSeatedAs : Pass H S → Pass H S → Type 0
   IsSeatedAs old new = (new.seat.table_id ≡ old.seat.table_id) × ((view new).size ≡ (view old).size) × ((view new).seat ≡ (view old).seat)
       × ((view new).last ≡ (view old).last) × ((view new).rest ≡ (view old).rest) × IsWell (view new)
-      × (share_of new ≡ share_of old) × (new.entries ≡ old.entries)
+      × (share_of new ≡ share_of old) × (new.records ≡ old.records)
 
   -- and it lists the same words
   abbrev pub StaysSeated : Pass H S → Pass H S → Type 0
@@ -92,8 +106,23 @@ module _ {H : Type 0} {S : Ghosts H} where
 
   -- nothing but its list changed
   abbrev pub OnlyListed : Pass H S → Pass H S → Type 0
-  OnlyListed old new = (new.seat ≡ old.seat) × (share_of new ≡ share_of old) × (new.entries ≡ old.entries) × (new.visits ≡ old.visits)
+  OnlyListed old new = (new.seat ≡ old.seat) × (share_of new ≡ share_of old) × (new.records ≡ old.records) × (new.visits ≡ old.visits)
 
   -- nothing but its visits changed
   abbrev pub OnlyVisited : Pass H S → Pass H S → Type 0
-  OnlyVisited old new = (new.seat ≡ old.seat) × (share_of new ≡ share_of old) × (new.entries ≡ old.entries) × (new.listed ≡ old.listed)
+  OnlyVisited old new = (new.seat ≡ old.seat) × (share_of new ≡ share_of old) × (new.records ≡ old.records) × (new.listed ≡ old.listed)
+
+  -- nothing but the call that it is to record changed; and nothing but what it recorded and is to record
+  abbrev pub OnlyCarried : Pass H S → Pass H S → Type 0
+  OnlyCarried old new = (new.seat ≡ old.seat) × (share_of new ≡ share_of old) × (new.records.entries ≡ old.records.entries)
+      × (new.listed ≡ old.listed) × (new.visits ≡ old.visits)
+
+  abbrev pub OnlyRecorded : Pass H S → Pass H S → Type 0
+  OnlyRecorded old new = (new.seat ≡ old.seat) × (share_of new ≡ share_of old)
+      × (vec_capacity new.records.entries ≡ vec_capacity old.records.entries) × (new.listed ≡ old.listed) × (new.visits ≡ old.visits)
+
+  -- the pass is where it was, on the same board, with the same share and as much room for calls, of which it may have recorded one
+  abbrev pub SitsAs : Pass H S → Pass H S → Type 0
+  SitsAs old new = (new.seat.table_id ≡ old.seat.table_id) × ((view new).size ≡ (view old).size) × ((view new).seat ≡ (view old).seat)
+      × ((view new).last ≡ (view old).last) × ((view new).rest ≡ (view old).rest) × IsWell (view new)
+      × (share_of new ≡ share_of old) × (vec_capacity new.records.entries ≡ vec_capacity old.records.entries)

@@ -1,4 +1,5 @@
 //! The board, and what a pass steps on it with.
+ghost use Rattle.std.specs.Option.{ForSome};
 ghost use Rattle.std.specs.Prelude.{◌≡◌, ◌+◌, ◌*◌, ◌<◌, ◌≤◌, [], true, length, vec_capacity};
 ghost use Rattle.pc_rule_law.specs.Board.{owns_begin, stride, words_of};
 ghost use Rattle.pc_rule_law.specs.Tables.{size_of};
@@ -8,12 +9,13 @@ ghost use Rattle.pc_rule.specs.Stored.{install_of, HoldsWords};
 ghost use Rattle.pc_rule.specs.Walking.{HoldsPath};
 
 use crate::opening::Place;
+use crate::records::Records;
 use crate::share::Share;
 use crate::stored::InstallWords;
 use crate::visit::Visit;
 use atomic_table::{Seat, Table};
 use pc_exchange_law::{WholeLaw, WholeView};
-use pc_model::{Entry, Shape};
+use pc_model::Shape;
 use pc_rule_law::{Opening, Starts};
 use std::alloc::Global;
 use std::marker::PhantomData;
@@ -33,8 +35,8 @@ pub struct Board<H: Shape> {
     ghost small: { (seats ≤ 32) × (slots ≤ 61000) },
 }
 
-/// A seat at a board, with what its pass knows, the words that stand in its own descriptors, the calls that it recorded, the words
-/// that it lists for its exchange, and the nodes that it visited in the operation that it has begun. The pass with the highest seat
+/// A seat at a board, with what its pass knows, the words that stand in its own descriptors, the calls that it recorded and the one
+/// that it is to record, the words that it lists for its exchange, and the nodes that it visited in the operation that it has begun. The pass with the highest seat
 /// has room for the calls of all passes, which it takes in at the closing.
 #[derive(Drop)]
 pub struct Pass<H: Shape> {
@@ -49,7 +51,7 @@ pub struct Pass<H: Shape> {
     /// The first words of its descriptor.
     pub(crate) words: Vec<u64>,
     pub(crate) share: Share,
-    pub(crate) entries: Vec<Entry>,
+    pub(crate) records: Records,
     pub(crate) listed: Vec<Place>,
     pub(crate) begun: bool,
     pub(crate) visits: Vec<Visit>,
@@ -64,7 +66,8 @@ pub struct Pass<H: Shape> {
     ghost holds_none: { seat.me.1 ≡ [] },
     ghost one_attempt: { AgreeOnAttempt seat.me.0 },
     ghost few: { index < 32 },
-    ghost roomy: { share.calls ≤ vec_capacity entries },
+    ghost roomy: { share.calls ≤ vec_capacity records.entries },
+    ghost carrying: { ForSome records.carried (λ c. length records.entries.items < share.calls) },
     ghost ample: { 24 ≤ vec_capacity listed },
     ghost listing: { AreListed seat.me.0.view.size.slots listed.items },
     ghost walking: { HoldsPath seat.me.0 begun visits.items (vec_capacity visits) },

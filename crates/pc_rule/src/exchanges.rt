@@ -22,7 +22,7 @@ pub fn step_9<H: Shape>(board: &Board<H>, pass: &mut Pass<H>) -> u64
     requires pass { IsPassOf board.now pass.old }
     ensures pass { IsSamePass pass.old pass.new }
     ensures told { ClockLoaded (view pass.old) result (view pass.new) }
-    ensures learnt { ClockSeen (knows pass.old) result (knows pass.new) }
+    ensures learnt { ClockSeen (whole pass.old).path (knows pass.old) result (knows pass.new) }
     ensures aim { aim pass.new ≡ aim pass.old }
 {
     board.table.shared.load::<WholeLoadClock>(&mut pass.seat, 0)
@@ -50,7 +50,7 @@ pub fn step_10<H: Shape>(board: &Board<H>, pass: &mut Pass<H>, place: u32, new: 
 /// the descriptor.
 pub fn step_11<H: Shape>(board: &Board<H>, pass: &mut Pass<H>, new: u64)
     requires pass { IsPassOf board.now pass.old }
-    requires may { MayPublish H.form (board_size board.now) (knows pass.old) new }
+    requires may { MayPublish H.form (board_size board.now) (whole pass.old) new }
     ensures pass { IsSamePass pass.old pass.new }
     ensures told { view pass.new ≡ after_publish (view pass.old) }
     ensures learnt { KnowsPublished (whole pass.old) (knows pass.new) }

@@ -13,7 +13,7 @@ ghost use Rattle.pc_rule_law.specs.Seats.{joined_by};
 ghost use Rattle.pc_rule_law.specs.Tables.{size_of};
 ghost use Rattle.pc_exchange_law.specs.Ties.{last_stamp};
 ghost use Rattle.pc_exchange_law.specs.WholeSeats.{first_whole, whole_maker, whole_made, IsWholeClosed};
-ghost use Rattle.pc_rule.specs.Passes.{whole, view, knows, board_size, share_of, recorded, listed, SitsAt, IsPassOf};
+ghost use Rattle.pc_rule.specs.Passes.{whole, view, knows, board_size, share_of, recorded, listed, IsBlank, SitsAt, IsPassOf};
 ghost use Rattle.pc_rule.specs.Recorded.{calls_of, recorded_by, HasRoomFor};
 ghost use Rattle.pc_rule.specs.Left.{told_by};
 ghost use Rattle.pc_rule.specs.Opened.{AreOpened, AreInOrder};
@@ -24,6 +24,7 @@ use crate::listed::list_room;
 use crate::opening::{Place, words_start};
 use crate::places::own_place;
 use crate::recorded::room_for;
+use crate::records::Records;
 use crate::share::Share;
 use crate::stored::{install_start, words_room};
 use crate::visit::{Visit, visit_room};
@@ -46,7 +47,7 @@ impl<H: Shape> Board<H> {
         requires early { opening.now.starts.stamp ≤ last_stamp }
         requires shares { (length shares.now ≡ opening.now.seats) × (1 ≤ length shares.now) }
         ensures opened { IfOk result (λ r. (board_size r.0 ≡ size_of opening.now) × (r.0.shares.items ≡ shares.now) × IsPassOf r.0 r.1 × (whole r.1 ≡ first_whole (size_of opening.now))) }
-        ensures room { IfOk result (λ r. (recorded r.1 ≡ []) × (1 ≡ length shares.now → HasRoomFor shares.now r.1)) }
+        ensures room { IfOk result (λ r. IsBlank r.1 × (1 ≡ length shares.now → HasRoomFor shares.now r.1)) }
         ensures list { IfOk result (λ r. listed r.1 ≡ []) }
     {
         let entries = room_for(alloc, shares, 0)?;
@@ -77,7 +78,10 @@ impl<H: Shape> Board<H> {
             published: false,
             words: stored,
             share: shares[0],
-            entries,
+            records: Records {
+                entries,
+                carried: None,
+            },
             listed,
             begun: true,
             visits,
@@ -106,9 +110,9 @@ impl<H: Shape> Board<H> {
         requires list { (places.items ≡ []) × (24 ≤ vec_capacity places) }
         requires visits { (visits.items ≡ []) × ((board_size self.now).slots + 1 ≤ vec_capacity visits) }
         ensures pass { IsPassOf self.now last.new × (whole last.new ≡ whole_maker (whole last.old)) }
-        ensures kept { (recorded last.new ≡ recorded last.old) × (listed last.new ≡ listed last.old) }
+        ensures kept { (last.new.records ≡ last.old.records) × (listed last.new ≡ listed last.old) }
         ensures made { IsPassOf self.now result × (whole result ≡ whole_made (whole last.old)) }
-        ensures room { (recorded result ≡ []) × (vec_capacity result.entries ≡ vec_capacity entries) }
+        ensures room { IsBlank result × (vec_capacity result.records.entries ≡ vec_capacity entries) }
         ensures list { listed result ≡ [] }
     {
         let seat = self
@@ -124,7 +128,10 @@ impl<H: Shape> Board<H> {
             published: false,
             words,
             share,
-            entries,
+            records: Records {
+                entries,
+                carried: None,
+            },
             listed: places,
             begun: true,
             visits,
@@ -174,21 +181,22 @@ impl<H: Shape> Board<H> {
         requires passes { SitsAt self.now last.old × SitsAt self.now other }
         requires rest { (view last.old).rest ≡ (view other).seat + 1 }
         requires free { IsFree (view other) }
-        requires room { length (recorded last.old) + length (recorded other) ≤ vec_capacity last.old.entries }
+        requires room { length (recorded last.old) + length (recorded other) ≤ vec_capacity last.old.records.entries }
         ensures pass { SitsAt self.now last.new × (view last.new ≡ joined_by (view last.old) (view other)) }
         ensures told { (knows last.new).told ≡ (knows other).told ++ (knows last.old).told }
         ensures entries { recorded last.new ≡ recorded last.old ++ recorded other }
-        ensures capacity { vec_capacity last.old.entries ≤ vec_capacity last.new.entries }
+        ensures capacity { vec_capacity last.old.records.entries ≤ vec_capacity last.new.records.entries }
     {
         let Pass {
             seat,
-            mut entries,
+            mut records,
             ..
         } = other;
         self.table
             .shared
             .join_seat::<WholeJoinPass>(&mut last.seat, seat);
-        let Ok(()) = last.entries.append(&mut entries) else {
+        last.records.carried = None;
+        let Ok(()) = last.records.entries.append(&mut records.entries) else {
             unreachable!()
         };
     }
@@ -217,7 +225,7 @@ impl<H: Shape> Board<H> {
         ensures entries { result.1.items ≡ recorded last }
     {
         let Board { table, .. } = self;
-        let Pass { seat, entries, .. } = last;
-        (table.close_with(seat), entries)
+        let Pass { seat, records, .. } = last;
+        (table.close_with(seat), records.entries)
     }
 }

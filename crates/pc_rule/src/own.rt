@@ -1,5 +1,6 @@
 //! What a pass knows of itself.
-ghost use Rattle.std.specs.Prelude.{◌≡◌, ◌<◌, ◌≤◌};
+ghost use Rattle.std.specs.Prelude.{◌≡◌, ◌+◌, ◌*◌, ◌<◌, ◌≤◌};
+ghost use Rattle.pc_rule_law.specs.Past.{visits_begin};
 ghost use Rattle.pc_rule.specs.Passes.{view, board_size, IsPassOf};
 
 use crate::board::{Board, Pass};
@@ -28,6 +29,14 @@ impl<H: Shape> Board<H> {
         ensures small { result ≤ 32 }
     {
         self.seats as u32
+    }
+
+    /// The place of the node of a visit in a descriptor, by the visit's index. Its version stands at the next place.
+    pub fn visit_place(&self, i: u32) -> u32
+        requires { i ≤ (board_size self.now).slots }
+        ensures { result ≡ visits_begin (board_size self.now).slots + 2 * i }
+    {
+        78 + 3 * self.slots as u32 + 2 * i
     }
 
     /// The seat of one of the board's passes, from 0.

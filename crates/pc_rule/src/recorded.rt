@@ -59,14 +59,14 @@ impl<H: Shape> Pass<H> {
     pub fn entries(&self) -> &[Entry]
         ensures { result.now ≡ recorded self.now }
     {
-        self.entries.as_slice()
+        self.records.entries.as_slice()
     }
 
     /// How many calls can still be recorded.
     pub fn room(&self) -> u32
         ensures { result ≡ (share_of self.now).calls - length (recorded self.now) }
     {
-        let recorded = self.entries.len();
+        let recorded = self.records.entries.len();
         (self.share.calls as usize).saturating_sub(recorded) as u32
     }
 

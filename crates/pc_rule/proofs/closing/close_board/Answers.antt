@@ -51,7 +51,7 @@ pub returns-clause-installs : goal.returns-clause-installs
 returns-clause-installs g c = none_stand c.args.board g.H.Shape.form _ _ c.end-table.ensures.closed
 
 pub returns-clause-cells : goal.returns-clause-cells
-returns-clause-cells g c = let front = c.pop.new.self.items in run_left _ c.args.board g.H.Shape.form _ _ refl (same_size c.args.board) c.end-table.ensures.closed c.args.passes.items
+returns-clause-cells g c = let front = c.pop.new.self.items in run_left _ c.args.board _ _ refl (same_size c.args.board) c.end-table.ensures.closed c.args.passes.items
     (ap told_by c.in-Some.ensures.items ∙ (told_last front c.in-Some.last ∙ sym c.take_all.ensures.told))
 
 pub invariant_of-result : goal.invariant_of-result

@@ -42,6 +42,7 @@ invariant_of-pass g c = let x : Whole = c.args.pass.now.seat.me.0 in let v : Vie
       one_attempt = keeps.agree c.args.pass.now.one_attempt;
       few = c.args.pass.now.few;
       roomy = c.args.pass.now.roomy;
+      carrying = c.args.pass.now.carrying;
       ample = c.args.pass.now.ample;
       listing = still_listed v y.view c.args.pass.now.listed.items t.1 c.args.pass.now.listing;
       walking = path_still x y _ _ _ (keeps.path) t.1.4 c.args.pass.now.walking;

@@ -37,6 +37,7 @@ invariant_of-pass g c = let x : Whole = c.args.pass.now.seat.me.0 in let v : Vie
       one_attempt = subst AgreeOnAttempt (sym told) record { number = c.args.pass.now.one_attempt.number; busy = c.args.pass.now.one_attempt.busy; words = ap (λ (l : List (ℕ × ℕ)). (c.args.place, c.args.new) ∷ l) c.args.pass.now.one_attempt.words };
       few = c.args.pass.now.few;
       roomy = c.args.pass.now.roomy;
+      carrying = c.args.pass.now.carrying;
       ample = c.args.pass.now.ample;
       listing = still_listed v y.view c.args.pass.now.listed.items t.1 c.args.pass.now.listing;
       walking = path_still x y _ _ _ (ap (λ (u : Whole). u.path) told) t.1.4 c.args.pass.now.walking;

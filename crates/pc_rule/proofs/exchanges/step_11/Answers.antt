@@ -37,6 +37,7 @@ invariant_of-pass g c = let x : Whole = c.args.pass.now.seat.me.0 in let v : Vie
       one_attempt = subst AgreeOnAttempt (sym is) record { number = ap (λ k. k + 1) c.args.pass.now.one_attempt.number; busy = refl; words = c.args.pass.now.one_attempt.words };
       few = c.args.pass.now.few;
       roomy = c.args.pass.now.roomy;
+      carrying = c.args.pass.now.carrying;
       ample = c.args.pass.now.ample;
       listing = still_listed v y.view c.args.pass.now.listed.items t.1 c.args.pass.now.listing;
       walking = path_still x y _ _ _ (ap (λ (u : Whole). u.path) told.4) t.1.4 c.args.pass.now.walking;
@@ -48,7 +49,7 @@ returns-clause-told g c = let x : Whole = c.args.pass.now.seat.me.0 in let v : V
 
 pub returns-clause-learnt : goal.returns-clause-learnt
 returns-clause-learnt g c = let x : Whole = c.args.pass.now.seat.me.0 in let v : View = x.view in let z : Size = size_of c.args.board.now.table.shared.key in let p : Place = at_own v.seat own_status in let inside : Inside z p = (c.requires.pass.2, tt) in let y : Whole = c.store.new.seat.me.0 in
-    let told = told_at v z c.word_of-word.result (HasPublished x c.store.new.seat.me.0) p c.requires.pass.1 c.store.ensures.2.2 inside c.word_of-word.ensures refl in (told.0, told.1, told.2, told.3, ap (λ (u : Whole). u.knows) told.4)
+    let told = told_at v z c.word_of-word.result (HasPublished x c.store.new.seat.me.0) p c.requires.pass.1 c.store.ensures.2.2 inside c.word_of-word.ensures refl in (told.0, told.1, told.2, told.3, ap (λ (u : Whole). u.knows) told.4, told.5, told.6)
 
 pub returns-clause-aim : goal.returns-clause-aim
 returns-clause-aim g c = let x : Whole = c.args.pass.now.seat.me.0 in let v : View = x.view in let z : Size = size_of c.args.board.now.table.shared.key in let p : Place = at_own v.seat own_status in let inside : Inside z p = (c.requires.pass.2, tt) in let y : Whole = c.store.new.seat.me.0 in

@@ -41,6 +41,7 @@ invariant_of-pass g c = let x : Whole = c.args.pass.now.seat.me.0 in let v : Vie
       one_attempt = agree_still x y mine (swapped_own x c.args.node c.args.field c.args.old c.args.new c.compare_exchange.result y told.1) c.args.pass.now.one_attempt;
       few = c.args.pass.now.few;
       roomy = c.args.pass.now.roomy;
+      carrying = c.args.pass.now.carrying;
       ample = c.args.pass.now.ample;
       listing = still_listed v y.view c.args.pass.now.listed.items t.1 c.args.pass.now.listing;
       walking = path_still x y _ _ _ (told.1.path) t.1.4 c.args.pass.now.walking;

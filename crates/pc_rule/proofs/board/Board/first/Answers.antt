@@ -44,7 +44,7 @@ returns-clause-opened g c = let o = c.args.opening.now in let z : Size = size_of
     )
 
 pub returns-clause-room : goal.returns-clause-room
-returns-clause-room g c = (c.in_ok-entries.ensures.none, λ e. c.in_ok-entries.ensures.all e)
+returns-clause-room g c = ((c.in_ok-entries.ensures.none, refl), λ e. c.in_ok-entries.ensures.all e)
 
 pub invariant_of-pass-clause-roomy : goal.invariant_of-pass-clause-roomy
 invariant_of-pass-clause-roomy g c = c.in_ok-entries.ensures.own _ (element c.args.shares.now 0 (record { slots = 0; calls = 0 }) (let one = c.requires.shares.1 in omega arith))

@@ -2,7 +2,7 @@ use Rattle.std.proofs.Common.{rules, ◌≡◌, ℕ, ◌+◌, ◌<◌, ◌≤◌
 use Rattle.pc_exchange_law.specs.WholeSeats.{whole_maker, whole_made}
 use Rattle.pc_rule_law.proofs.Lists.{each_snoc, below_length}
 use Rattle.pc_rule.specs.Opened.{last_whole, IsLastMade}
-use Rattle.pc_rule.specs.Passes.{whole, recorded, listed, IsPassOf}
+use Rattle.pc_rule.specs.Passes.{whole, listed, IsBlank, IsPassOf}
 use Rattle.pc_rule.specs.Recorded.{calls_of}
 use Rattle.pc_rule.proofs.Starting.{element}
 use Rattle.pc_rule.proofs.board.Board.open.Goals as goal
@@ -31,8 +31,8 @@ loop-made-preserved g c = let inv = c.loop-made.invariant in let o = c.args.open
         λ e. rw inv.shares (let n = c.requires.shares.0 in let all : calls_of c.args.shares.now ≤ vec_capacity c.in_ok-entries.entries = c.in_ok-entries.ensures.all (e ∙ sym n) in let same = a.room.1 in omega arith),
         a.list,
       );
-      made = rw c.push_reserved.ensures.items (each_snoc passes last (λ i p. IsPassOf b p × (whole p ≡ whole_maker (last_whole o i)) × (recorded p ≡ []) × (listed p ≡ [])) inv.made
-          (subst (λ (i : ℕ). IsPassOf b last × (whole last ≡ whole_maker (last_whole o i)) × (recorded last ≡ []) × (listed last ≡ [])) (sym inv.count) (a.pass.0, a.pass.1 ∙ ap whole_maker inv.last.1, a.kept.0 ∙ inv.last.2, a.kept.1 ∙ inv.last.4)));
+      made = rw c.push_reserved.ensures.items (each_snoc passes last (λ i p. IsPassOf b p × (whole p ≡ whole_maker (last_whole o i)) × IsBlank p × (listed p ≡ [])) inv.made
+          (subst (λ (i : ℕ). IsPassOf b last × (whole last ≡ whole_maker (last_whole o i)) × IsBlank last × (listed last ≡ [])) (sym inv.count) (a.pass.0, a.pass.1 ∙ ap whole_maker inv.last.1, (ap (λ r. r.entries.items) a.kept.0 ∙ inv.last.2.0, ap (λ r. r.carried) a.kept.0 ∙ inv.last.2.1), a.kept.1 ∙ inv.last.4)));
     }
 
 pub returns : goal.returns
@@ -43,8 +43,8 @@ returns g c = let inv = c.loop-made.invariant in let o = c.args.opening.now in l
       inv.shares,
       (
         (search rules),
-        rw c.push_reserved-2.ensures.items (each_snoc passes last (λ i p. (i + 1 < o.seats → IsPassOf b p × (whole p ≡ whole_maker (last_whole o i)) × (recorded p ≡ []) × (listed p ≡ [])) × (i + 1 ≡ o.seats → IsLastMade b o i p))
+        rw c.push_reserved-2.ensures.items (each_snoc passes last (λ i p. (i + 1 < o.seats → IsPassOf b p × (whole p ≡ whole_maker (last_whole o i)) × IsBlank p × (listed p ≡ [])) × (i + 1 ≡ o.seats → IsLastMade b o i p))
             (λ i p at. let q = inv.made i p at in let lt = below_length passes i p at in ((λ _. q), λ e. absurd (omega arith)))
-            (subst (λ (i : ℕ). (i + 1 < o.seats → IsPassOf b last × (whole last ≡ whole_maker (last_whole o i)) × (recorded last ≡ []) × (listed last ≡ [])) × (i + 1 ≡ o.seats → IsLastMade b o i last)) (sym count) ((λ lt. absurd (omega arith)), λ _. inv.last))),
+            (subst (λ (i : ℕ). (i + 1 < o.seats → IsPassOf b last × (whole last ≡ whole_maker (last_whole o i)) × IsBlank last × (listed last ≡ [])) × (i + 1 ≡ o.seats → IsLastMade b o i last)) (sym count) ((λ lt. absurd (omega arith)), λ _. inv.last))),
       ),
     )

@@ -21,7 +21,7 @@ loop-other-init g c = let r = c.requires in let last = c.args.last.now in let sh
   room = (let n : length c.args.others.items + 1 ≡ length shares = r.others.1 in
       let at : get_elem? shares (length c.args.others.items) ≡ some (share_of last) = subst (λ (k : ℕ). get_elem? shares k ≡ some (share_of last)) r.last.1 r.last.0.4 in
       let taken = one_taken shares (length c.args.others.items) (share_of last) at in
-      let all = all_taken shares (suc (length c.args.others.items)) (omega arith) in let few = r.last.0.5 in let fits : calls_of shares ≤ vec_capacity last.entries = r.room in omega arith);
+      let all = all_taken shares (suc (length c.args.others.items)) (omega arith) in let few = r.last.0.5 in let fits : calls_of shares ≤ vec_capacity last.records.entries = r.room in omega arith);
 }
 
 pub take_in-requires-clause-passes : goal.take_in-requires-clause-passes
@@ -42,7 +42,7 @@ take_in-requires-clause-free g c = λ _ _. let inv = c.loop-other.invariant in l
 pub take_in-requires-clause-room : goal.take_in-requires-clause-room
 take_in-requires-clause-room g c = λ _ _. let inv = c.loop-other.invariant in let b = c.args.self.now in
     let is = each_last c.loop-other.others.items c.pop.new.self.items c.in-Some.other (λ i p. IsPassOf b p × ((view p).seat ≡ i) × IsFree (view p)) c.in-Some.ensures.items inv.others in
-    fits_now b.shares.items c.loop-other.others.items c.pop.new.self.items c.loop-other.last c.in-Some.other (vec_capacity c.loop-other.last.entries) c.in-Some.ensures.items
+    fits_now b.shares.items c.loop-other.others.items c.pop.new.self.items c.loop-other.last c.in-Some.other (vec_capacity c.loop-other.last.records.entries) c.in-Some.ensures.items
     (subst (λ (k : ℕ). get_elem? b.shares.items k ≡ some (share_of c.in-Some.other)) is.1 is.0.4) is.0.5 inv.room
 
 pub loop-other-preserved : goal.loop-other-preserved
@@ -54,6 +54,6 @@ loop-other-preserved g c = let inv = c.loop-other.invariant in let b = c.args.se
       others = each_front c.loop-other.others.items c.pop.new.self.items c.in-Some.other (λ i p. IsPassOf b p × ((view p).seat ≡ i) × IsFree (view p)) c.in-Some.ensures.items inv.others;
       entries = taken_in (recorded_by c.args.others.items ++ recorded c.args.last.now) c.loop-other.others.items c.pop.new.self.items c.in-Some.other (recorded c.loop-other.last) (recorded c.take_in.new.last) c.in-Some.ensures.items took.entries inv.entries;
       told = inv.told ∙ told_taken c.loop-other.others.items c.pop.new.self.items c.in-Some.other (knows c.loop-other.last).told (knows c.take_in.new.last).told c.in-Some.ensures.items took.told;
-      room = (fits_then b.shares.items c.loop-other.others.items c.pop.new.self.items c.loop-other.last c.take_in.new.last c.in-Some.other (vec_capacity c.loop-other.last.entries) (vec_capacity c.take_in.new.last.entries) c.in-Some.ensures.items
+      room = (fits_then b.shares.items c.loop-other.others.items c.pop.new.self.items c.loop-other.last c.take_in.new.last c.in-Some.other (vec_capacity c.loop-other.last.records.entries) (vec_capacity c.take_in.new.last.records.entries) c.in-Some.ensures.items
           (subst (λ (k : ℕ). get_elem? b.shares.items k ≡ some (share_of c.in-Some.other)) is.1 is.0.4) is.0.5 inv.room took.entries took.capacity);
     }

@@ -13,7 +13,7 @@ invariant-loop-other g l = record {
   others : AreInOrder l.self l.others.items;
   entries : IsPermutation (recorded_by l.initial.others.items ++ recorded l.initial.last) (recorded_by l.others.items ++ recorded l.last);
   told : told_by l.initial.others.items ++ (knows l.initial.last).told ≡ told_by l.others.items ++ (knows l.last).told;
-  room : length (recorded l.last) + calls_of (take (length l.others.items) l.self.shares.items) ≤ vec_capacity l.last.entries;
+  room : length (recorded l.last) + calls_of (take (length l.others.items) l.self.shares.items) ≤ vec_capacity l.last.records.entries;
 }
 
 abbrev pub decreases-loop-other : goal.decreases-loop-other
