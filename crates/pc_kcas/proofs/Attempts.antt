@@ -1,6 +1,6 @@
 -- The attempt that a list is: it is formed, the words that were stored describe it, and once it is published each place of
 -- the list is known to be one of it.
-use Rattle.std.proofs.Common.{◌≡◌, ◌≢◌, ℕ, zero, suc, ◌+◌, ◌*◌, ◌^◌, ◌<◌, true, false, List, [], ◌∷◌, length, map, refl, sym, ap, ap₂, ◌∙◌, subst, inl, inr, ⊎_elim, arith}
+use Rattle.std.proofs.Common.{◌≡◌, ◌≢◌, ℕ, zero, suc, ◌+◌, ◌*◌, ◌^◌, ◌<◌, ◌≤◌, true, false, List, [], ◌∷◌, length, map, refl, sym, ap, ap₂, ◌∙◌, subst, inl, inr, ⊎_elim, arith}
 use Rattle.std.proofs.lemmas.Bool.{cases_order}
 use Rattle.std.proofs.lemmas.List.{length-map}
 use Rattle.std.proofs.lemmas.List.Sorted.{All-permutation, IsPermutation-sym}
@@ -11,20 +11,20 @@ use Rattle.pc_model.specs.declared.cell.Field.{Field}
 use Rattle.pc_model.specs.declared.cell.Field.TheVariants.{Version}
 use Rattle.pc_model.specs.Cells.{IsNode}
 use Rattle.pc_model.specs.Forms.{Form, Fits}
-use Rattle.pc_model.specs.Exchanges.{Changed}
+use Rattle.pc_model.specs.Exchanges.{Changed, Visited, Seen}
 use Rattle.pc_words.specs.declared.status.Stage.TheVariants.{Undecided}
 use Rattle.pc_words.specs.Statuses.{packed}
 use Rattle.pc_rule_law.specs.Board.{Size, place_number, descriptor_words}
 use Rattle.pc_rule_law.specs.Conditions.{IsFree, CanWrite, KnowsWord, KnowsChange}
-use Rattle.pc_rule_law.specs.Openings.{attempt_of}
-use Rattle.pc_rule_law.specs.Past.{Has, Describes, IsFormed}
+use Rattle.pc_rule_law.specs.Past.{Has, Attempt, Describes, IsFormed, visits_begin}
 use Rattle.pc_rule_law.specs.Plays.{after_publish}
 use Rattle.pc_rule_law.specs.Views.{Note, View, clock_at, removed, word_in, with_notes}
-use Rattle.pc_rule_law.proofs.Lists.{below_length, has_later}
+use Rattle.pc_rule_law.proofs.Lists.{below_length, has_later, none_has}
 use Rattle.pc_protocol.specs.Notes.{Note as ToldNote, clock_was}
 use Rattle.pc_exchange_law.specs.Attempts.{word_in as known_word_in}
 use Rattle.pc_exchange_law.specs.Changes.{RaisesNodes}
-use Rattle.pc_exchange_law.specs.ExchangeConditions.{KnowsOld, was_read, is_version, was_opened, was_written, KnowsBasis}
+use Rattle.pc_exchange_law.specs.ExchangeConditions.{KnowsOld, was_read, is_version, was_opened, was_written, KnowsBasis, GoesByPath}
+use Rattle.pc_exchange_law.specs.Knowing.{IsAboveSeen}
 use Rattle.pc_exchange_law.specs.Passes.{PassKnows}
 use Rattle.pc_exchange_law.specs.Ties.{exchange_of}
 use Rattle.pc_exchange_law.specs.Wholes.{Whole}
@@ -40,22 +40,24 @@ use Rattle.pc_rule.specs.Starting.{change_of}
 use Rattle.pc_rule.proofs.Calls.{read_at}
 use Rattle.pc_rule.proofs.Sharing.{from_map}
 use Rattle.pc_dcss.specs.Installs.{KnowsPlace}
-use Rattle.pc_kcas.specs.Exchanges.{ListsTo, RaisesVersions, FitsInEachOrder, KnowsOldValues, OnlyPublished, HasPublished}
+use Rattle.pc_kcas.specs.Exchanges.{ListsTo, RaisesVersions, KnowsOldValues, OnlyPublished, HasPublished, attempt_with}
 
 pub listed_as : (places : List Place) (i : ℕ) (p : Place) → get_elem? places i ≡ some p → get_elem? (map change_of places) i ≡ some (change_of p)
 listed_as [] i p at = absurd (some-ne-none p (sym at))
 listed_as (q ∷ places) zero p at = ap (λ (r : Place). some (change_of r)) (some-injective q p at)
 listed_as (q ∷ places) (suc i) p at = listed_as places i p at
 
-pub describes : (slots : ℕ) (places : List Place) (word : ℕ → ℕ) → ListsTo places word (length places) → Describes slots (attempt_of (map change_of places)) word
-describes slots places word so = record {
+pub describes : (slots m : ℕ) (visits : List Visited) (reads : List Seen) (places : List Place) (word : ℕ → ℕ) → ListsTo m (length visits) places word (length places)
+    → ((i : ℕ) (x : Visited) → get_elem? visits i ≡ some x → (word (visits_begin slots + 2 * i) ≡ x.node) × (word (visits_begin slots + (1 + 2 * i)) ≡ x.version))
+    → Describes slots (attempt_with m visits reads (map change_of places)) word
+describes slots m visits reads places word so each = record {
   mode = so.mode;
   changes = so.changes ∙ sym (length-map places change_of);
   visits = so.visits;
   each_change = λ i x at. let p = from_map change_of places i x at in
       subst (λ (y : Changed). (word (3 + 3 * i) ≡ place_number y.node y.field) × (word (4 + 3 * i) ≡ y.old) × (word (5 + 3 * i) ≡ y.new)) p.2
       (so.each i p.0 (below_length places i p.0 p.1) p.1);
-  each_visit = λ i x at. absurd (some-ne-none x (sym at));
+  each_visit = each;
 }
 
 module _ (slots : ℕ) (places : List Place) (all : AreListed slots places) where
@@ -72,12 +74,13 @@ module _ (slots : ℕ) (places : List Place) (all : AreListed slots places) wher
   one_index i j p q at_p at_q same = ⊎_elim (λ (e : i ≡ j). e)
       (λ ne. ⊎_elim (λ (lt : i < j). absurd (apart_at i j p q lt at_p at_q same)) (λ (lt : j < i). absurd (apart_at j i q p lt at_q at_p (sym same))) ne) (cases_order i j)
 
-  pub formed : IsFormed slots (attempt_of (map change_of places))
+  pub formed : (m : ℕ) (visits : List Visited) (reads : List Seen) → length visits ≤ slots + 1
+      → ((x : Visited) → Has visits x → IsNode slots x.node × (x.version < 2 ^ 62)) → IsFormed slots (attempt_with m visits reads (map change_of places))
   unfolding fits_at one_index
-  formed = record {
+  formed m visits reads few_visits visited = record {
     few = (let n = length-map places change_of in let few = all.few in omega arith);
-    few_visits = omega arith;
-    no_visits = refl;
+    few_visits = few_visits;
+    visited = visited;
     inside = λ x has. let p = from_map change_of places has.0 x has.1 in
         subst (λ (y : Changed). IsNode slots y.node × (y.old < 2 ^ 62) × (y.new < 2 ^ 62)) p.2 (fits_at has.0 p.0 p.1);
     apart = λ i j x y at_x at_y node field. let p = from_map change_of places i x at_x in let q = from_map change_of places j y at_y in
@@ -107,8 +110,9 @@ abbrev RaisesItsNode : List Place → Place → Type 0
 RaisesItsNode places p = (v : Place) × Has places v × (v.node ≡ p.node) × (v.field ≡ Version) × (v.new ≡ v.old + 2)
 
 -- the attempt raises its nodes in each order of its words
-raises_nodes : (old new : List Place) → IsPermutation old new → RaisesVersions old → RaisesNodes (attempt_of (map change_of new))
-raises_nodes old new same raises a among = let has = among_has (map change_of new) a among in let p = from_map change_of new has.0 a has.1 in
+raises_nodes : (m : ℕ) (visits : List Visited) (reads : List Seen) (old new : List Place) → IsPermutation old new → RaisesVersions old
+    → RaisesNodes (attempt_with m visits reads (map change_of new))
+raises_nodes m visits reads old new same raises a among = let has = among_has (map change_of new) a among in let p = from_map change_of new has.0 a has.1 in
     let r : RaisesItsNode old p.0 = subst (RaisesItsNode old) (read_at new has.0 p.0 p.0 p.1)
     (All-permutation (RaisesItsNode old) old new same raises has.0 p.0 (below_length new has.0 p.0 p.1)) in
     let v : Place = r.0 in let more : v.new ≡ v.old + 2 = r.4 in let there = has_in_order old new same v r.1 in record {
@@ -130,10 +134,10 @@ abbrev KnowsItsOld : Size → PassKnows → List Place → Place → Type 0
 KnowsItsOld z k places p = (v : Place) × Has places v × (v.node ≡ p.node) × (v.field ≡ Version) × KnowsOld z k p.node v.old p.field p.old
 
 -- the old numbers are known in each order of the words
-pub known_basis : (z : Size) (k k' : PassKnows) (old new : List Place) → ((m : ToldNote) → Has k.told m → Has k'.told m) → IsPermutation old new
-    → KnowsOldValues z k old → KnowsBasis z k' (attempt_of (map change_of new))
+pub known_basis : (m : ℕ) (visits : List Visited) (reads : List Seen) (z : Size) (k k' : PassKnows) (old new : List Place) → ((m : ToldNote) → Has k.told m → Has k'.told m) → IsPermutation old new
+    → KnowsOldValues z k old → KnowsBasis z k' (attempt_with m visits reads (map change_of new))
 unfolding old_still
-known_basis z k k' old new more same known a among = let has = among_has (map change_of new) a among in let p = from_map change_of new has.0 a has.1 in
+known_basis m visits reads z k k' old new more same known a among = let has = among_has (map change_of new) a among in let p = from_map change_of new has.0 a has.1 in
     let r : KnowsItsOld z k old p.0 = subst (KnowsItsOld z k old) (read_at new has.0 p.0 p.0 p.1)
     (All-permutation (KnowsItsOld z k old) old new same known has.0 p.0 (below_length new has.0 p.0 p.1)) in
     let v : Place = r.0 in let there = has_in_order old new same v r.1 in (
@@ -148,14 +152,18 @@ known_basis z k k' old new more same known a among = let has = among_has (map ch
     )
 
 -- the words that were stored may be published: those of a list, in some order
-pub may_publish : (form : Form) (z : Size) (x : Whole) (k : PassKnows) (old new : List Place) (c status : ℕ) → AgreeOnAttempt x → CanWrite x.view → x.view.size ≡ z
-    → x.view.attempt.number + 1 < 2 ^ 28 → AreListed x.view.size.slots new → IsPermutation old new → RaisesVersions old → FitsInEachOrder form x.view.size.slots old
-    → KnowsOldValues z k old → ((m : ToldNote) → Has k.told m → Has x.knows.told m) → Has x.knows.told (clock_was c) → ListsTo new (word_in x.view.attempt.words) (length new)
-    → status ≡ packed (record { number = x.view.attempt.number + 1; stage = Undecided }) → MayPublish form z x.knows status
-may_publish form z x k old new c status agree may sized lt all same raises fit known more clock so is =
+pub may_publish : (form : Form) (z : Size) (x : Whole) (k : PassKnows) (mode : ℕ) (visits : List Visited) (reads : List Seen) (old new : List Place) (c status : ℕ)
+    → AgreeOnAttempt x → CanWrite x.view → x.view.size ≡ z → x.view.attempt.number + 1 < 2 ^ 28 → AreListed x.view.size.slots new → IsPermutation old new → RaisesVersions old
+    → ((ordered : List Place) → IsPermutation old ordered → (keys : List ℕ) × Fits form x.view.size.slots (exchange_of (attempt_with 0 visits reads (map change_of ordered))) keys)
+    → KnowsOldValues z k old → ((m : ToldNote) → Has k.told m → Has x.knows.told m) → Has x.knows.told (clock_was c) → IsAboveSeen x.knows.told c
+    → (length visits ≤ x.view.size.slots + 1) × ((u : Visited) → Has visits u → IsNode x.view.size.slots u.node × (u.version < 2 ^ 62))
+    → Describes x.view.size.slots (attempt_with mode visits reads (map change_of new)) (word_in x.view.attempt.words)
+    → GoesByPath x.knows x.path c (attempt_with mode visits reads (map change_of new)) → status ≡ packed (record { number = x.view.attempt.number + 1; stage = Undecided }) → MayPublish form z x status
+may_publish form z x k mode visits reads old new c status agree may sized lt all same raises fit known more clock above inside so goes is =
+    let e : Attempt = attempt_with mode visits reads (map change_of new) in
     let slots : x.view.size.slots ≡ z.slots = ap (λ (y : Size). y.slots) sized in
     let fits = fit new same in (
-      attempt_of (map change_of new),
+      e,
       c,
       fits.0,
       is ∙ ap (λ (n : ℕ). packed (record { number = n + 1; stage = Undecided })) (sym agree.number),
@@ -163,24 +171,29 @@ may_publish form z x k old new c status agree may sized lt all same raises fit k
         rests = agree.busy ∙ may.1;
         room = subst (λ (n : ℕ). n + 1 < 2 ^ 28) (sym agree.number) lt;
         clock = clock;
-        formed = subst (λ (s : ℕ). IsFormed s (attempt_of (map change_of new))) slots (formed x.view.size.slots new all);
-        raises = raises_nodes old new same raises;
-        no_visits = refl;
-        described = subst (λ (l : List (ℕ × ℕ)). Describes z.slots (attempt_of (map change_of new)) (known_word_in l)) (sym agree.words)
-            (describes_too z.slots (attempt_of (map change_of new)) x.view.attempt.words (describes z.slots new (word_in x.view.attempt.words) so));
-        fits = subst (λ (s : ℕ). Fits form s (exchange_of (attempt_of (map change_of new))) fits.0) slots fits.1;
-        based = known_basis z k x.knows old new more same known;
+        above = above;
+        formed = subst (λ (s : ℕ). IsFormed s e) slots (formed x.view.size.slots new all mode visits reads inside.0 inside.1);
+        raises = raises_nodes mode visits reads old new same raises;
+        seen = goes;
+        described = subst (λ (l : List (ℕ × ℕ)). Describes z.slots e (known_word_in l)) (sym agree.words)
+            (describes_too z.slots e x.view.attempt.words (subst (λ (s : ℕ). Describes s e (word_in x.view.attempt.words)) slots so));
+        fits = subst (λ (s : ℕ). Fits form s (exchange_of e) fits.0) slots fits.1;
+        based = known_basis mode visits reads z k x.knows old new more same known;
       },
     )
 
-pub has_published : (v w : View) (places : List Place) → w ≡ after_publish v → v.posted ≡ false → v.attempt.number + 1 < 2 ^ 28
-    → ListsTo places (word_in v.attempt.words) (length places) → 0 < length places → HasPublished w places
-has_published v w places told none lt so some' = subst (λ (x : View). HasPublished x places) (sym told) record {
+pub has_published : (v w : View) (mode : ℕ) (visits : List Visited) (reads : List Seen) (places : List Place) → w ≡ after_publish v → v.posted ≡ false
+    → v.attempt.number + 1 < 2 ^ 28 → Describes v.size.slots (attempt_with mode visits reads (map change_of places)) (word_in v.attempt.words) → 0 < length places
+    → HasPublished w places
+has_published v w mode visits reads places told none lt so some' = subst (λ (x : View). HasPublished x places) (sym told) record {
+  mode = mode;
+  visits = visits;
+  reads = reads;
   some_listed = some';
   published = refl;
   none_posted = none;
   number = lt;
-  describes = describes v.size.slots places (word_in v.attempt.words) so;
+  describes = so;
 }
 
 module _ (v : View) (places : List Place) (has : HasPublished v places) (all : AreListed v.size.slots places) (seated : v.seat < v.size.seats) where

@@ -14,10 +14,9 @@ use Rattle.pc_kcas.specs.declared.obstacle.Obstacle.TheVariants.{Decided, Change
 use Rattle.pc_kcas.specs.declared.obstacle.Stuck.{Stuck}
 use Rattle.pc_kcas.specs.declared.obstacle.Stuck.TheVariants.{Two, NoLink}
 use Rattle.pc_kcas.specs.Helping.{IsStoppedBy}
-use Rattle.pc_kcas.specs.Obstacles.{IsNotOwn, IsWordOf, AreTwo, IsLink, HasFollowed, IsStuck, IsStuckAt, IsApartFrom, IsBeyond}
+use Rattle.pc_kcas.specs.Obstacles.{IsNotOwn, AreTwo, IsLink, HasFollowed, IsStuck, IsStuckAt, IsApartFrom, IsBeyond}
 use Rattle.pc_kcas.specs.Stops.{IsStopOf, AreInTheWay, HasMetObstacle, KnowsStop}
-use Rattle.pc_kcas.specs.Takings.{HoldsBelow}
-use Rattle.pc_kcas.specs.Verdicts.{IsBlocked}
+use Rattle.pc_kcas.specs.Verdicts.{HasReached, IsBlocked}
 use Rattle.pc_kcas.proofs.Evidence.{two_since, followed_since, followed_fewer}
 
 -- the reference of an exchange isn't that of an install
@@ -91,17 +90,16 @@ module _ (seats : ℕ) (v : View) (y : Whole) (op : Ref) (n : ℕ) (f : Field) (
       followed_since v met.start.view met.adds y seats (followed_fewer seats met.start.view y (subst (λ (k : ℕ). HasFollowed k met.start.view y) links met.followed))
 
 -- two references were met in the word itself
-two_blocked : (links : ℕ) (v : View) (x y : Whole) (op : Ref) (n : ℕ) (f : Field) (first second : Ref) → AddsNotes v x.view → IsStuckAt x y op n f first second
-    → (word : IsWordOf y op n f) → HoldsBelow y op word.0 → IsBlocked links v y op first second
+pub two_blocked : (links : ℕ) (v : View) (x y : Whole) (op : Ref) (n : ℕ) (f : Field) (first second : Ref) → AddsNotes v x.view → IsStuckAt x y op n f first second
+    → HasReached y op n f → IsBlocked links v y op first second
 unfolding first_stood second_stood
-two_blocked links v x y op n f first second adds s word before = let two : AreTwo x.view y first second = s.0 in
+two_blocked links v x y op n f first second adds s reached = let two : AreTwo x.view y first second = s.0 in
     let here : (r : Ref) → IsNotedSince x.view y.view (met_note r.kind r.seat r.number two.node two.field) → IsNotedSince v y.view (met_note r.kind r.seat r.number n f) =
     λ r h. noted_after v x.view y.view (met_note r.kind r.seat r.number n f) adds (subst (λ (k : ℕ). IsNotedSince x.view y.view (met_note r.kind r.seat r.number k f)) s.2
     (subst (λ (g : Field). IsNotedSince x.view y.view (met_note r.kind r.seat r.number two.node g)) s.3 h)) in record {
       node = n;
       field = f;
-      word = word;
-      before = before;
+      reached = reached;
       stood = here first (first_stood x.view y first second two);
       not_its_own = subst (λ (e : Ref). first ≢ e) s.1 two.not_its_own.0;
       not_own = two.not_own;
@@ -111,15 +109,14 @@ two_blocked links v x y op n f first second adds s word before = let two : AreTw
 
 -- another exchange was met there, whose help is stuck
 beyond_blocked : (links : ℕ) (v : View) (x y : Whole) (op : Ref) (n : ℕ) (f : Field) (left : ℕ) (met second : Ref) (how : Stuck) → AddsNotes v x.view
-    → (left ≡ 0 → HasFollowed links v y) → (word : IsWordOf y op n f) → HoldsBelow y op word.0 → IsBeyond x y op n f left met how → IsStopOf met how second
+    → (left ≡ 0 → HasFollowed links v y) → HasReached y op n f → IsBeyond x y op n f left met how → IsStopOf met how second
     → IsBlocked links v y op met second
 unfolding exchange_not_own held_met
-beyond_blocked links v x y op n f left met second how adds followed word before b is =
+beyond_blocked links v x y op n f left met second how adds followed reached b is =
     let s : IsStoppedBy links v y met second = stopped_by links v x y left adds followed met second how b.stuck b.apart is in record {
       node = n;
       field = f;
-      word = word;
-      before = before;
+      reached = reached;
       stood = noted_after v x.view y.view _ adds (held_met x.view y.view met n f b.kind b.found);
       not_its_own = b.other;
       not_own = (exchange_not_own y.view met b.kind, s.not_own);
@@ -129,18 +126,18 @@ beyond_blocked links v x y op n f left met second how adds followed word before 
 
 -- the two references that are the obstacle stood in the way
 pub met_blocked : (seats : ℕ) (v : View) (y : Whole) (op : Ref) (n : ℕ) (f : Field) (o : Obstacle) (first second : Ref) → HasMetObstacle seats v y op n f o
-    → (word : IsWordOf y op n f) → HoldsBelow y op word.0 → AreInTheWay o first second → IsBlocked seats v y op first second
+    → HasReached y op n f → AreInTheWay o first second → IsBlocked seats v y op first second
 unfolding all_followed two_blocked beyond_blocked
-met_blocked seats v y op n f Decided first second met word before way = absurd way
-met_blocked seats v y op n f Changed first second met word before way = absurd way
-met_blocked seats v y op n f (IsStuckThere (Two one two)) first second met word before way = let e = met.obstacle in
+met_blocked seats v y op n f Decided first second met reached way = absurd way
+met_blocked seats v y op n f Changed first second met reached way = absurd way
+met_blocked seats v y op n f (IsStuckThere (Two one two)) first second met reached way = let e = met.obstacle in
     subst (λ (r : Ref). IsBlocked seats v y op r second) (sym way.0) (subst (λ (r : Ref). IsBlocked seats v y op one r) (sym way.1)
-    (two_blocked seats v met.start y op n f one two met.adds e word before))
-met_blocked seats v y op n f (IsStuckThere (NoLink last)) first second met word before way = absurd way
-met_blocked seats v y op n f (Beyond other how) first second met word before way =
+    (two_blocked seats v met.start y op n f one two met.adds e reached))
+met_blocked seats v y op n f (IsStuckThere (NoLink last)) first second met reached way = absurd way
+met_blocked seats v y op n f (Beyond other how) first second met reached way =
     subst (λ (r : Ref). IsBlocked seats v y op r second) (sym way.0)
-    (beyond_blocked seats v met.start y op n f met.left other second how met.adds (all_followed seats v y op n f (Beyond other how) met) word before met.obstacle way.1)
-met_blocked seats v y op n f (OutOfNumbers k) first second met word before way = absurd way
+    (beyond_blocked seats v met.start y op n f met.left other second how met.adds (all_followed seats v y op n f (Beyond other how) met) reached met.obstacle way.1)
+met_blocked seats v y op n f (OutOfNumbers k) first second met reached way = absurd way
 
 -- what the pass knows of its own exchange, by the obstacle
 pub met_known : (seats : ℕ) (v : View) (y : Whole) (n : ℕ) (f : Field) (o : Obstacle) → HasMetObstacle seats v y (record { kind = AnExchange; seat = y.view.seat; number = y.view.attempt.number }) n f o → KnowsStop y n o

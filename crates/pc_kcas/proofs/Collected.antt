@@ -19,6 +19,8 @@ use Rattle.pc_kcas.specs.declared.collecting.Halt.TheVariants.{Over, At}
 use Rattle.pc_kcas.specs.declared.obstacle.Obstacle.{Obstacle}
 use Rattle.pc_kcas.specs.Holds.{halt_at}
 use Rattle.pc_kcas.specs.Obstacles.{GoesOn, IsWordOf, IsObstacle}
+use Rattle.pc_kcas.specs.Checking.{KnowsCounts}
+use Rattle.pc_kcas.specs.declared.reading.Counts.{Counts}
 use Rattle.pc_kcas.specs.Readings.{HasComeTo, HasLoaded, HasRead}
 use Rattle.pc_kcas.specs.Settling.{HoldsEach}
 use Rattle.pc_kcas.specs.Takings.{HoldsAt, HoldsBelow}
@@ -40,6 +42,14 @@ pub read_goes : (x y : Whole) (op : Ref) (place r : ℕ) → GoesOn x y → HasR
 read_goes x y op place r goes h = (
   keeps_notes x.view y.view goes.adds (attempt_word op.seat op.number place r) h.0,
   goes.noted (listed_word op.seat op.number place r) h.1,
+)
+
+pub counts_goes : (x y : Whole) (op : Ref) (counts : Counts) → GoesOn x y → KnowsCounts x op counts → KnowsCounts y op counts
+counts_goes x y op counts goes k = (
+  loaded_goes x y op 1 counts.changes goes k.0,
+  read_goes x y op 1 counts.changes goes k.1,
+  loaded_goes x y op 2 counts.visits goes k.2,
+  read_goes x y op 2 counts.visits goes k.3,
 )
 
 -- one word more holds the reference

@@ -4,6 +4,7 @@ use Rattle.std.proofs.lemmas.Bool.{cases_order}
 use Rattle.pc_words.specs.declared.status.Stage.{Stage}
 use Rattle.pc_words.specs.declared.status.Stage.TheVariants.{Idle, Undecided, Succeeded, Withdrawn, Changed, Locked}
 use Rattle.pc_words.specs.declared.status.Status.{Status}
+use Rattle.pc_rule_law.specs.Past.{Has}
 use Rattle.pc_rule_law.specs.Plays.{StatusLoaded}
 use Rattle.pc_rule_law.specs.Past.{Has}
 use Rattle.pc_rule_law.specs.Stages.{IsIdle, IsOpen, decided_from, decided_by}
@@ -106,3 +107,9 @@ pub never_open : (x y : Whole) (op : Ref) (s : Status) → HasLoadedStatus x y o
 unfolding at_open
 never_open x y op s l d e pending =
     let m = l.told.still_decided d.0 d.1 in let at : decided_by s ≡ s.number = at_open s.number s.stage pending in let lt = d.2 in omega arith
+
+-- nor does one that is found later, where what is known to be decided is so by it too
+pub still_closed : (v : View) (op : Ref) (s : Status) → IsDecided v op.seat op.number → ((m : ℕ) → Has v.notes (decided_below op.seat m) → m ≤ decided_by s)
+    → s.number ≡ op.number → IsOpen s.stage → ⊥
+unfolding at_open
+still_closed v op s d still e pending = let m = still d.0 d.1 in let at : decided_by s ≡ s.number = at_open s.number s.stage pending in let lt = d.2 in omega arith

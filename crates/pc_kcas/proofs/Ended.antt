@@ -4,7 +4,6 @@ use Rattle.pc_words.specs.declared.status.Stage.{Stage as StatusStage}
 use Rattle.pc_words.specs.declared.status.Stage.TheVariants.{Idle, Undecided, Succeeded, Withdrawn, Changed, Locked}
 use Rattle.pc_words.specs.declared.status.Status.{Status}
 use Rattle.pc_rule_law.specs.Past.{Has}
-use Rattle.pc_rule_law.specs.Openings.{attempt_of}
 use Rattle.pc_rule_law.specs.Stages.{IsIdle, IsOpen, decided_from, decided_by}
 use Rattle.pc_rule_law.specs.Views.{View, decided_below}
 use Rattle.pc_protocol.specs.Histories.{Cause, withdrawn, ended, changed, locked, Stage, committed, aborted}
@@ -21,10 +20,9 @@ use Rattle.pc_dcss.proofs.Staying.{adds_then}
 use Rattle.pc_kcas.specs.declared.verdict.Verdict.{Verdict}
 use Rattle.pc_kcas.specs.declared.verdict.Verdict.TheVariants.{Won, Changed as ChangedSo, Locked as LockedSo, Blocked, Numbers}
 use Rattle.pc_kcas.specs.Clearing.{took_effect, says_success, KnowsOutcome, HasCleared}
-use Rattle.pc_kcas.specs.Exchanges.{HasPublished, KnowsOwn}
-use Rattle.pc_kcas.specs.Settling.{HasLearnt, HasLearntOrWithdrawn, KnowsNoVisits, OwnsPublished, StandsAt, IsSettled, TellsFailure}
+use Rattle.pc_kcas.specs.Exchanges.{HasPublished, KnowsOwn, attempt_with}
+use Rattle.pc_kcas.specs.Settling.{HasLearnt, HasLearntOrWithdrawn, OwnsPublished, StandsAt, IsSettled, TellsFailure}
 use Rattle.pc_kcas.specs.Verdicts.{KnowsFailed, KnowsRival, KnowsWhy, HasEnded, EndedSo, IsReason, answer_by}
-use Rattle.pc_kcas.proofs.Cleared.{known_own}
 
 -- an undecided attempt is none of those that are decided
 open_from : (k : ℕ) (st : StatusStage) → IsOpen st → decided_from k st ≡ k
@@ -164,7 +162,7 @@ why_ended x y places p a s at is has own agree l settled fails =
     let own_codes : code x.view.seat x.view.attempt.number ≡ code p s.number = ap₂ (λ (q b : ℕ). code q b) (sym at) (sym (number ∙ is)) in record {
       settled = subst (λ (q : ℕ). IsSettled y q y.view.attempt.number s) at_y (subst (λ (b : ℕ). IsSettled y p b s) is_y settled);
       changed = λ n e. subst (λ (c : ℕ). Has y.knows.told (outdated c n)) codes (fails.changed n e);
-      locked = λ n q e. let r = fails.locked n q e in let e' = exchange_of (attempt_of (map change_of places)) in
+      locked = λ n q e. let r = fails.locked n q e in let e' = exchange_of (attempt_with 0 own.visits own.reads (map change_of places)) in
           let d : own.noted.0 ≡ r.0 = r.2 e' own.noted.0 (subst (λ (c : ℕ). Has x.knows.told (published c e' own.noted.0)) own_codes own.noted.1) in (
             e',
             r.0,
@@ -183,6 +181,3 @@ decided_settled x y p a s stands decided below = record {
   stands = stands;
   over = λ number pending. let m = below decided.0 decided.1 in let e = open_from s.number s.stage pending in let lt = decided.2 in omega arith;
 }
-
-pub own_no_visits : (x : Whole) (places : List Place) → HasPublished x.view places → AgreeOnAttempt x → KnowsNoVisits x x.view.seat x.view.attempt.number
-own_no_visits x places has agree = known_own x places has agree x.view.attempt.number (sym agree.number) 2 0 has.describes.visits

@@ -1,11 +1,11 @@
 -- What was noted of obstacles and links since some moment is so since an earlier one, and up to a later one.
 use Rattle.std.proofs.Common.{◌≡◌, ℕ, zero, suc, ◌+◌, ◌-◌, ◌*◌, ◌≤◌, List, sym, ap, ◌∙◌, subst, inl, inr, ⊎_elim, arith}
 use Rattle.pc_model.specs.declared.cell.Field.{Field}
-use Rattle.pc_rule_law.specs.Board.{place_number}
-use Rattle.pc_rule_law.specs.Past.{Has}
+use Rattle.pc_rule_law.specs.Board.{Size, place_number}
+use Rattle.pc_rule_law.specs.Past.{Has, visits_begin}
 use Rattle.pc_rule_law.specs.Plays.{AddsNotes}
 use Rattle.pc_rule_law.specs.Views.{View, Note, held}
-use Rattle.pc_exchange_law.specs.Attempts.{OwnAttempt, KnowsEntry, KnowsWord, listed_word, word_in}
+use Rattle.pc_exchange_law.specs.Attempts.{OwnAttempt, KnowsEntry, KnowsVisit, KnowsWord, listed_word, word_in}
 use Rattle.pc_exchange_law.specs.Wholes.{Whole}
 use Rattle.pc_rule.specs.declared.refs.Ref.{Ref}
 use Rattle.pc_dcss.specs.Installs.{met_note, KeepsNotes}
@@ -25,6 +25,7 @@ keeps_notes v w adds x h = subst (λ (l : List Note). Has l x) (sym adds.1) (has
 pub goes_then : (x y z : Whole) → GoesOn x y → GoesOn y z → GoesOn x z
 goes_then x y z a b = record {
   adds = adds_then x.view y.view z.view a.adds b.adds;
+  size = b.size ∙ a.size;
   attempt = (b.attempt.0 ∙ a.attempt.0, b.attempt.1 ∙ a.attempt.1);
   noted = λ n h. b.noted n (a.noted n h);
   told = λ n h. b.told n (a.told n h);
@@ -52,8 +53,21 @@ module _ (y z : Whole) (goes : GoesOn y z) (seat : z.view.seat ≡ y.view.seat) 
     new_word = word_goes p a (5 + 3 * i) new e.new_word;
   }
 
+  pub visit_goes : (p a i n v : ℕ) → KnowsVisit y.view.size.slots y.knows.noted y.view.seat y.knows.own p a i n v
+      → KnowsVisit z.view.size.slots z.knows.noted z.view.seat z.knows.own p a i n v
+  visit_goes p a i n v visit = subst (λ (u : Size). KnowsVisit u.slots z.knows.noted z.view.seat z.knows.own p a i n v) (sym goes.size) record {
+    count = visit.count;
+    counted = word_goes p a 2 visit.count visit.counted;
+    below = visit.below;
+    node_word = word_goes p a (visits_begin y.view.size.slots + 2 * i) n visit.node_word;
+    version_word = word_goes p a (visits_begin y.view.size.slots + (1 + 2 * i)) v visit.version_word;
+  }
+
   pub is_word_goes : (e : Ref) (n : ℕ) (f : Field) → IsWordOf y e n f → IsWordOf z e n f
-  is_word_goes e n f w = (w.0, w.1, w.2, entry_goes e.seat e.number w.0 n f w.1 w.2 w.3)
+  is_word_goes e n f w = ⊎_elim
+      (λ changed. inl (changed.0, changed.1, changed.2, entry_goes e.seat e.number changed.0 n f changed.1 changed.2 changed.3))
+      (λ visited. inr (visited.0, visited.1, visited.2, visit_goes e.seat e.number visited.1 n visited.2 visited.3))
+      w
 
   not_own_goes : (r : Ref) → IsNotOwn y.view r → IsNotOwn z.view r
   not_own_goes r other kind here = other kind (here ∙ seat)

@@ -2,6 +2,7 @@
 use Rattle.std.proofs.Common.{◌≡◌, ℕ, ◌+◌, ◌-◌, ◌<◌, ◌≤◌, true, List, [], length, get_or, Option, Some, None, IfSome, IfNone, refl, sym, ap, ap₂, ◌∙◌, subst, inl, inr, ⊎_elim, arith}
 use mathlib.Core.Option.{some}
 use lib.ListN.{get_elem?}
+use Rattle.pc_model.specs.declared.cell.Field.TheVariants.{Version}
 use Rattle.pc_model.specs.declared.shape.Shape.{Ghosts}
 use Rattle.pc_rule_law.specs.Plays.{AddsNotes, IsNotedSince}
 use Rattle.pc_rule_law.specs.Conditions.{IsFree}
@@ -24,11 +25,11 @@ use Rattle.pc_kcas.specs.declared.verdict.Verdict.TheVariants.{Won, Changed as C
 use Rattle.pc_kcas.specs.Clearing.{HoldsListed, IsCleanAt}
 use Rattle.pc_kcas.specs.Exchanges.{IsPublished, IsHeldAt, own_exchange}
 use Rattle.pc_kcas.specs.Obstacles.{GoesOn, IsWordOf, HasFollowed, IsObstacle}
-use Rattle.pc_kcas.specs.Stops.{HasMetObstacle, HasMetAt, KnowsStopAt, WereStoppedBy}
+use Rattle.pc_kcas.specs.Stops.{HasMetObstacle, HasMetAt, KnowsStopAt, AreInTheWay}
 use Rattle.pc_kcas.specs.Takings.{HoldsBelow}
-use Rattle.pc_kcas.specs.Verdicts.{KnowsWon, KnowsLost, KnowsChanged, KnowsRival, HasEnded, KeepsAll, IsBlocked, IsAtLast, EndedSo, IfWon, IfChanged, IfLocked, IfBlocked, IfNumbers}
-use Rattle.pc_kcas.proofs.Blocking.{met_blocked, met_known}
-use Rattle.pc_kcas.proofs.Evidence.{keeps_notes}
+use Rattle.pc_kcas.specs.Verdicts.{KnowsWon, KnowsLost, KnowsChanged, KnowsRival, HasEnded, KeepsAll, changes, WereBlockedBy, KnewBetween, IsBlocked, IsAtLast, EndedSo, IfWon, IfChanged, IfLocked, IfBlocked, IfNumbers}
+use Rattle.pc_kcas.proofs.Blocking.{two_blocked, met_blocked, met_known}
+use Rattle.pc_kcas.proofs.Evidence.{keeps_notes, goes_then}
 use Rattle.pc_kcas.proofs.Attempts.{knows_place}
 use Rattle.pc_kcas.proofs.Cleared.{own_entry}
 use Rattle.pc_kcas.proofs.Holding.{own_word}
@@ -113,7 +114,7 @@ module _ {H : Type 0} {S : Ghosts H} where
   own_word_of p i op now d has is same lt = let x = get_or (listed p) i d in
       subst (λ (l : List Place). IsWordOf (whole p) op (get_or l i d).node (get_or l i d).field) (sym same)
       (subst (λ (r : Ref). IsWordOf (whole p) r x.node x.field) (sym is)
-      (i, x.old, x.new, own_entry (whole p) (listed p) has.0 p.one_attempt (view p).attempt.number (sym p.one_attempt.number) i x (element (listed p) i d lt)))
+      (inl (i, x.old, x.new, own_entry (whole p) (listed p) has.0 p.one_attempt (view p).attempt.number (sym p.one_attempt.number) i x (element (listed p) i d lt))))
 
   -- what holds of it holds of the word of the exchange that was taken
   own_at : (p q : Pass H S) (i : ℕ) (op : Ref) (now : List Place) (d : Place) (P : Ref → Place → Type 0) → op ≡ own_exchange p → now ≡ listed p → IsSamePass p q
@@ -168,17 +169,37 @@ module _ {H : Type 0} {S : Ghosts H} where
   why_stopped seats o q None met = tt
 
   -- two references stood in the way, where the words were stopped by them
-  pub stopped_blocked : (seats : ℕ) (o q : Pass H S) (stopped : Option Stop) → IsPublished q → IfSome stopped (λ stop. stop.at < length (listed q))
-      → IfSome stopped (λ stop. HasMetAt seats o q stop.at stop.obstacle) → IfSome stopped (λ stop. HoldsBelow (whole q) (own_exchange q) stop.at)
-      → (first second : Ref) → WereStoppedBy stopped first second
+  stopped_blocked : (seats : ℕ) (o q : Pass H S) (stop : Stop) → IsPublished q → stop.at < length (listed q)
+      → HasMetAt seats o q stop.at stop.obstacle → HoldsBelow (whole q) (own_exchange q) stop.at
+      → (first second : Ref) → AreInTheWay stop.obstacle first second
       → IsBlocked seats (view o) (whole q) (own_exchange q) first second
-  stopped_blocked seats o q (Some stop) has lt met before first second by = let at = element_at (listed q) stop.at lt in let x = at.0 in
+  stopped_blocked seats o q stop has lt met before first second by = let at = element_at (listed q) stop.at lt in let x = at.0 in
       met_blocked seats (view o) (whole q) (own_exchange q) x.node x.field stop.obstacle first second (met x at.1)
-      (stop.at, x.old, x.new, own_entry (whole q) (listed q) has.0 q.one_attempt (view q).attempt.number (sym q.one_attempt.number) stop.at x at.1) before by
-  stopped_blocked seats o q None has lt met before first second by = absurd by
+      (changes stop.at x.old x.new (own_entry (whole q) (listed q) has.0 q.one_attempt (view q).attempt.number (sym q.one_attempt.number) stop.at x at.1) before) by
 
   pub own_same : (p q : Pass H S) → IsSamePass p q → GoesOn (whole p) (whole q) → own_exchange q ≡ own_exchange p
   own_same p q same goes = ap₂ (λ (a b : ℕ). record { kind = Exchange; seat = a; number = b }) same.0.2 (ap (λ (t : OwnAttempt). t.number) goes.attempt.0)
+
+  -- or they stood in the version of a node that the exchange visits
+  pub blocked_ended : (seats : ℕ) (o q : Pass H S) (y : Whole) (stopped : Option Stop) → IsSamePass o q → GoesOn (whole o) (whole q) → HasEnded (whole q) y → IsPublished q
+      → IfSome stopped (λ stop. stop.at < length (listed q)) → IfSome stopped (λ stop. HasMetAt seats o q stop.at stop.obstacle)
+      → IfSome stopped (λ stop. HoldsBelow (whole q) (own_exchange q) stop.at)
+      → (first second : Ref) → WereBlockedBy stopped (whole q) y (own_exchange q) first second
+      → KnewBetween (whole o) y (λ u. IsBlocked seats (view o) u (own_exchange o) first second)
+  unfolding stopped_blocked
+  blocked_ended seats o q y (Some stop) same goes ended has lt met before first second by = (
+    whole q,
+    goes,
+    ended,
+    subst (λ (r : Ref). IsBlocked seats (view o) (whole q) r first second) (own_same o q same goes) (stopped_blocked seats o q stop has lt met before first second by),
+  )
+  blocked_ended seats o q y None same goes ended has lt met before first second by = (
+    by.0,
+    goes_then (whole o) (whole q) by.0 goes by.1,
+    by.2,
+    subst (λ (r : Ref). IsBlocked seats (view o) by.0 r first second) (own_same o q same goes)
+        (two_blocked seats (view o) (whole q) by.0 (own_exchange q) by.3.0 Version first second goes.adds by.3.1 by.3.2),
+  )
 
   -- each word that was listed is clean
   pub clean_listed : (p q r : Pass H S) → IsSamePass p q → GoesOn (whole p) (whole q) → IsSamePass q r → HasEnded (whole q) (whole r)

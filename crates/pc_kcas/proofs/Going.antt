@@ -17,21 +17,21 @@ use Rattle.pc_kcas.specs.Settling.{HasLearnt}
 use Rattle.pc_kcas.proofs.Evidence.{keeps_notes, word_goes}
 
 pub goes_none : (x : Whole) → GoesOn x x
-goes_none x = record { adds = ([], refl); attempt = (refl, refl); noted = λ n h. h; told = λ n h. h; own = refl }
+goes_none x = record { adds = ([], refl); size = refl; attempt = (refl, refl); noted = λ n h. h; told = λ n h. h; own = refl }
 
-pub goes_by : (x y : Whole) → AddsNotes x.view y.view → KeepsAttempt x.view y.view → Learns x.knows y.knows → GoesOn x y
-goes_by x y adds attempt learns = record { adds = adds; attempt = attempt; noted = learns.noted; told = learns.told; own = learns.own }
+pub goes_by : (x y : Whole) → AddsNotes x.view y.view → y.view.size ≡ x.view.size → KeepsAttempt x.view y.view → Learns x.knows y.knows → GoesOn x y
+goes_by x y adds size attempt learns = record { adds = adds; size = size; attempt = attempt; noted = learns.noted; told = learns.told; own = learns.own }
 
 later_keeps : (v w : View) → IsLater v w → KeepsAttempt v w
 later_keeps v w later = (ap (λ (u : View). u.attempt) later.same, ap (λ (u : View). u.posted) later.same)
 
 pub goes_later : (x y : Whole) → IsLater x.view y.view → Learns x.knows y.knows → GoesOn x y
 unfolding later_keeps
-goes_later x y later learns = goes_by x y later.adds (later_keeps x.view y.view later) learns
+goes_later x y later learns = goes_by x y later.adds (ap (λ (u : View). u.size) later.same) (later_keeps x.view y.view later) learns
 
 pub goes_learnt : (x y : Whole) → HasLearnt x y → GoesOn x y
 unfolding later_keeps
-goes_learnt x y l = record { adds = l.view.adds; attempt = later_keeps x.view y.view l.view; noted = l.noted; told = l.told; own = l.own }
+goes_learnt x y l = record { adds = l.view.adds; size = ap (λ (u : View). u.size) l.view.same; attempt = later_keeps x.view y.view l.view; noted = l.noted; told = l.told; own = l.own }
 
 module _ (x y : Whole) (goes : GoesOn x y) (seat : y.view.seat ≡ x.view.seat) where
   -- an attempt that is known to be gone from all words is so still

@@ -5,7 +5,6 @@ use mathlib.Core.Option.{some}
 use lib.ListN.{get_elem?}
 use Rattle.pc_model.specs.declared.shape.Shape.{Ghosts}
 use Rattle.pc_rule_law.specs.Board.{Size}
-use Rattle.pc_rule_law.specs.Openings.{attempt_of}
 use Rattle.pc_rule_law.specs.Past.{Describes}
 use Rattle.pc_rule_law.specs.Plays.{AddsNotes, IsNotedSince}
 use Rattle.pc_rule_law.specs.Views.{View, OwnAttempt, held, word_in}
@@ -21,7 +20,7 @@ use Rattle.pc_dcss.specs.declared.installed.Installed.TheVariants.{Held, Decided
 use Rattle.pc_dcss.specs.Installs.{KnowsPlace, KeepsNotes, KeepsAttempt, HasNoNumber, IsOutOfNumbers, last_install, OnHeld, IfNumbers}
 use Rattle.pc_dcss.proofs.Puts.{place_still}
 use Rattle.pc_dcss.proofs.Staying.{adds_then, noted_before, noted_after}
-use Rattle.pc_kcas.specs.Exchanges.{HasPublished, IsUncleared, IsHeldAt, IsStopped, IsStoppedAt, own_exchange}
+use Rattle.pc_kcas.specs.Exchanges.{HasPublished, attempt_with, IsUncleared, IsHeldAt, IsStopped, IsStoppedAt, own_exchange}
 
 pub published_still : (v w : View) (old new : List Place) → KeepsAttempt v w → w.size ≡ v.size → new ≡ old → HasPublished v old → HasPublished w new
 published_still v w old new keeps sized same has = record {
@@ -29,9 +28,13 @@ published_still v w old new keeps sized same has = record {
   published = ap (λ (a : OwnAttempt). a.published) keeps.0 ∙ has.published;
   none_posted = keeps.1 ∙ has.none_posted;
   number = subst (λ (a : OwnAttempt). a.number < 2 ^ 28) (sym keeps.0) has.number;
-  describes = subst (λ (l : List Place). Describes w.size.slots (attempt_of (map change_of l)) (word_in w.attempt.words)) (sym same)
-      (subst (λ (z : Size). Describes z.slots (attempt_of (map change_of old)) (word_in w.attempt.words)) (sym sized)
-      (subst (λ (a : OwnAttempt). Describes v.size.slots (attempt_of (map change_of old)) (word_in a.words)) (sym keeps.0) has.describes));
+  mode = has.mode;
+  visits = has.visits;
+  reads = has.reads;
+  describes = let e = λ (l : List Place). attempt_with has.mode has.visits has.reads (map change_of l) in
+      subst (λ (l : List Place). Describes w.size.slots (e l) (word_in w.attempt.words)) (sym same)
+      (subst (λ (z : Size). Describes z.slots (e old) (word_in w.attempt.words)) (sym sized)
+      (subst (λ (a : OwnAttempt). Describes v.size.slots (e old) (word_in a.words)) (sym keeps.0) has.describes));
 }
 
 below_or : (m n : ℕ) → (m < n) ⊎ (n ≤ m)

@@ -1,20 +1,22 @@
 -- What a pass has learnt in its steps, and that it knows still what it knew.
-use Rattle.std.proofs.Common.{◌≡◌, ℕ, ◌+◌, ◌*◌, List, [], ◌∷◌, true, refl, sym, ap, ◌∙◌, subst, inl, inr, ⊎_elim}
+use Rattle.std.proofs.Common.{◌≡◌, ℕ, ◌+◌, ◌*◌, List, [], ◌∷◌, ◌++◌, true, refl, sym, ap, ◌∙◌, subst, inl, inr, ⊎_elim}
 use Rattle.pc_rule_law.specs.Past.{Has}
 use Rattle.pc_rule_law.specs.Views.{View, Note as ViewNote, OwnAttempt as OwnTry, clock_at, decided_below, with_notes}
 use Rattle.pc_rule_law.specs.Plays.{IsLater, ClockLoaded}
 use Rattle.pc_rule_law.proofs.Lists.{has_right}
-use Rattle.pc_protocol.specs.Notes.{Note, clock_was}
+use Rattle.pc_protocol.specs.Histories.{Stage}
+use Rattle.pc_protocol.specs.Notes.{Note, clock_was, saw, verdict}
 use Rattle.pc_exchange_law.specs.Attempts.{AttemptNote, OwnAttempt, KnowsWord, word_in}
 use Rattle.pc_exchange_law.specs.ExchangeConditions.{MayDrawFor}
-use Rattle.pc_exchange_law.specs.Knowing.{Learns}
+use Rattle.pc_exchange_law.specs.Knowing.{Learns, outdated_by}
 use Rattle.pc_exchange_law.specs.Passes.{PassKnows}
+use Rattle.pc_exchange_law.specs.Paths.{read_of}
 use Rattle.pc_exchange_law.specs.WholePlays.{ClockSeen, after_decided}
 use Rattle.pc_exchange_law.specs.Wholes.{Whole}
 use Rattle.pc_dcss.proofs.Staying.{later_then}
 use Rattle.pc_kcas.specs.Settling.{HasLearnt, HasLearntOrWithdrawn, HoldsEach, KnowsOf}
 
-same_view : (v : View) → IsLater v v
+pub same_view : (v : View) → IsLater v v
 same_view v = record { same = refl; adds = ([], refl); more = λ x h. h }
 
 later_by : (v w : View) (new : List ViewNote) → w ≡ with_notes v new → IsLater v w
@@ -47,14 +49,18 @@ learnt_note x y k note is noted told own = subst (HasLearnt x) (sym is) record {
   own = own;
 }
 
--- the same of the decision of attempt a of pass p, which is noted in the view too
-pub learnt_decision : (x y : Whole) (p a : ℕ) (k : PassKnows) (note : Note) → y ≡ record x { view = after_decided x.view p a; knows = k } → k.noted ≡ x.knows.noted
-    → k.told ≡ note ∷ x.knows.told → k.own ≡ x.knows.own → HasLearnt x y
+-- what is told of a decision
+abbrev pub told_by : ℕ → Stage → List Note
+told_by x st = verdict x st ∷ outdated_by x st
+
+-- the same of the decision of attempt a of pass p, of which more may be told, and which is noted in the view too
+pub learnt_decision : (x y : Whole) (p a : ℕ) (k : PassKnows) (notes : List Note) → y ≡ record x { view = after_decided x.view p a; knows = k }
+    → k.noted ≡ x.knows.noted → k.told ≡ notes ++ x.knows.told → k.own ≡ x.knows.own → HasLearnt x y
 unfolding later_by
-learnt_decision x y p a k note is noted told own = subst (HasLearnt x) (sym is) record {
+learnt_decision x y p a k notes is noted told own = subst (HasLearnt x) (sym is) record {
   view = later_by x.view (after_decided x.view p a) (decided_below p (a + 1) ∷ []) refl;
   noted = λ n h. subst (λ (l : List AttemptNote). Has l n) (sym noted) h;
-  told = λ n h. subst (λ (l : List Note). Has l n) (sym told) (has_right (note ∷ []) x.knows.told n h);
+  told = λ n h. subst (λ (l : List Note). Has l n) (sym told) (has_right notes x.knows.told n h);
   own = own;
 }
 
@@ -80,25 +86,25 @@ withdrawn_then x y z a b = record {
   own = b.own ∙ ap (λ (o : OwnAttempt). record o { withdrew = z.knows.own.withdrew }) a.own;
 }
 
-pub decision_told : (x y : Whole) (p a : ℕ) (k : PassKnows) (note : Note) → y ≡ record x { view = after_decided x.view p a; knows = k } → k.told ≡ note ∷ x.knows.told
+pub decision_told : (x y : Whole) (p a : ℕ) (k : PassKnows) (note : Note) (rest : List Note) → y ≡ record x { view = after_decided x.view p a; knows = k } → k.told ≡ note ∷ rest
     → Has y.knows.told note
-decision_told x y p a k note is told = subst (λ (u : Whole). Has u.knows.told note) (sym is) (subst (λ (l : List Note). Has l note) (sym told) (0, refl))
+decision_told x y p a k note rest is told = subst (λ (u : Whole). Has u.knows.told note) (sym is) (subst (λ (l : List Note). Has l note) (sym told) (0, refl))
 
 -- the note that was told
 pub note_told : (x y : Whole) (k : PassKnows) (note : Note) → y ≡ record x { knows = k } → k.told ≡ note ∷ x.knows.told → Has y.knows.told note
 note_told x y k note is told = subst (λ (u : Whole). Has u.knows.told note) (sym is) (subst (λ (l : List Note). Has l note) (sym told) (0, refl))
 
-pub clock_learnt : (x y : Whole) (r : ℕ) → ClockLoaded x.view r y.view → ClockSeen x.knows r y.knows → HasLearnt x y
+pub clock_learnt : (x y : Whole) (r : ℕ) → ClockLoaded x.view r y.view → ClockSeen x.path x.knows r y.knows → HasLearnt x y
 unfolding later_by
 clock_learnt x y r told seen =
     record {
       view = later_by x.view y.view (clock_at r ∷ []) told.0;
       noted = λ n h. subst (λ (k : PassKnows). Has k.noted n) (sym seen.noted) h;
-      told = λ n h. subst (λ (k : PassKnows). Has k.told n) (sym seen.noted) (has_right (clock_was r ∷ []) x.knows.told n h);
+      told = λ n h. subst (λ (k : PassKnows). Has k.told n) (sym seen.noted) (has_right (clock_was r ∷ saw r (read_of x.path) ∷ []) x.knows.told n h);
       own = ap (λ (k : PassKnows). k.own) seen.noted;
     }
 
-pub clock_told : (x y : Whole) (r : ℕ) → ClockSeen x.knows r y.knows → Has y.knows.told (clock_was r)
+pub clock_told : (x y : Whole) (r : ℕ) → ClockSeen x.path x.knows r y.knows → Has y.knows.told (clock_was r)
 clock_told x y r seen = subst (λ (k : PassKnows). Has k.told (clock_was r)) (sym seen.noted) (0, refl)
 
 module _ (x y : Whole) (l : HasLearnt x y) (p a : ℕ) where

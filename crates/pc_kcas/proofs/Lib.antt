@@ -1,6 +1,10 @@
 pub mod Attempts
+pub mod VisitChecks
+pub mod VisitsPassed
 pub mod Holding
 pub mod Owning
+pub mod OwnVisits
+pub mod PathVisits
 pub mod Stopped
 pub mod Blocking
 pub mod Finished

@@ -7,7 +7,7 @@ use Rattle.pc_words.specs.declared.status.Stage.{Stage}
 use Rattle.pc_words.specs.declared.status.Stage.TheVariants.{Idle, Undecided, Succeeded, Withdrawn, Changed, Locked}
 use Rattle.pc_words.specs.Statuses.{unpacked}
 use Rattle.pc_rule_law.specs.Board.{Size, place_number}
-use Rattle.pc_rule_law.specs.Past.{Has}
+use Rattle.pc_rule_law.specs.Past.{Has, visits_begin}
 use Rattle.pc_rule_law.specs.Plays.{StatusLoaded, DescriptorLoaded, IsLater, AddsNotes, IsPlaceIn}
 use Rattle.pc_rule_law.specs.Stages.{IsIdle, decided_by}
 use Rattle.pc_rule_law.specs.Views.{View, held, word_loaded, attempt_word, decided_below, NoteInRange, AllNotes, IsAttempt}
@@ -64,10 +64,18 @@ module _ (x y : Whole) (op : Ref) (s : Status) (l : HasLoadedStatus x y op.seat 
   pub count_few : s.number ≡ op.number → (IsIdle s.stage → ⊥) → (count : ℕ) → HasLoaded x op 1 count → count ≤ 25 + x.view.size.slots
   count_few e busy count h = subst (λ (a : ℕ). Has x.view.notes (word_loaded op.seat a 1 count) → count ≤ 25 + x.view.size.slots) e (l.told.counts busy count) h.0
 
-  pub none_visited : s.number ≡ op.number → (IsIdle s.stage → ⊥) → (count : ℕ) → HasLoaded x op 2 count → HasRead y op 2 0
-  unfolding now_read
-  none_visited e busy count h = let none : count ≡ 0 = subst (λ (a : ℕ). Has x.view.notes (word_loaded op.seat a 2 count) → count ≡ 0) e (l.told.visits busy count) h.0 in
-      subst (HasRead y op 2) none (now_read e busy 2 count h)
+  pub visits_few : s.number ≡ op.number → (IsIdle s.stage → ⊥) → (count : ℕ) → HasLoaded x op 2 count → count ≤ x.view.size.slots + 1
+  visits_few e busy count h = subst (λ (a : ℕ). Has x.view.notes (word_loaded op.seat a 2 count) → count ≤ x.view.size.slots + 1) e (l.told.visits busy count) h.0
+
+  pub visit_fits : s.number ≡ op.number → (IsIdle s.stage → ⊥) → (count i node found : ℕ) → HasLoaded x op 2 count → i < count
+      → HasLoaded x op (visits_begin x.view.size.slots + 2 * i) node → HasLoaded x op (visits_begin x.view.size.slots + (1 + 2 * i)) found
+      → IsNode x.view.size.slots node × (found < 2 ^ 62)
+  visit_fits e busy count i node found counted lt at_node at_version =
+      subst (λ (a : ℕ). Has x.view.notes (word_loaded op.seat a 2 count) → i < count
+      → Has x.view.notes (word_loaded op.seat a (visits_begin x.view.size.slots + 2 * i) node)
+      → Has x.view.notes (word_loaded op.seat a (visits_begin x.view.size.slots + (1 + 2 * i)) found)
+      → IsNode x.view.size.slots node × (found < 2 ^ 62)) e (l.told.visited busy count i node found)
+      counted.0 lt at_node.0 at_version.0
 
   pub words_fit : s.number ≡ op.number → (IsIdle s.stage → ⊥) → (count i place old new : ℕ) → HasLoaded x op 1 count → i < count
       → HasLoaded x op (3 + 3 * i) place → HasLoaded x op (4 + 3 * i) old → HasLoaded x op (5 + 3 * i) new

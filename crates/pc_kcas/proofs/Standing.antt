@@ -12,6 +12,7 @@ use Rattle.pc_rule_law.specs.Views.{View, OwnAttempt, IsAttempt}
 use Rattle.pc_rule_law.specs.Plays.{StatusLoaded}
 use Rattle.pc_protocol.specs.Histories.{Stage, ended, changed}
 use Rattle.pc_protocol.specs.Notes.{verdict}
+use Rattle.pc_exchange_law.specs.ExchangeConditions.{was_told}
 use Rattle.pc_exchange_law.specs.Knowing.{StatusSeen}
 use Rattle.pc_exchange_law.specs.Ties.{code, IsStageOf}
 use Rattle.pc_exchange_law.specs.WholePlays.{verdict_by}
@@ -109,5 +110,5 @@ may_decide z x p a Idle old new o n at fits may = absurd may
 may_decide z x p a Undecided old new o n at fits may = absurd may
 may_decide z x p a (Succeeded s) old new o n at fits may = (a, o, at, inl (s, n, may))
 may_decide z x p a Withdrawn old new o n at fits may = (a, o, at, inr (ended, n, tt, may))
-may_decide z x p a (ChangedNode m) old new o n at fits may = (a, o, at, inr (changed m, n, fits, may))
+may_decide z x p a (ChangedNode m) old new o n at fits may = (a, o, at, inr (changed m, n, fits, was_told may))
 may_decide z x p a (Locked m q) old new o n at fits may = absurd may

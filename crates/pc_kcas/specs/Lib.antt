@@ -11,3 +11,4 @@ pub mod Holds
 pub mod Stops
 pub mod Collecting
 pub mod Bounds
+pub mod Checking

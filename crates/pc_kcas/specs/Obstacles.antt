@@ -1,11 +1,12 @@
 -- What keeps an exchange from holding its words, by what the pass that takes them has noted.
-use Rattle.std.specs.Prelude.{◌≡◌, ◌≢◌, ℕ, zero, suc}
+use Rattle.std.specs.Prelude.{◌≡◌, ◌≢◌, ◌⊎◌, ℕ, zero, suc}
 use Rattle.pc_model.specs.declared.cell.Field.{Field}
+use Rattle.pc_model.specs.declared.cell.Field.TheVariants.{Version}
 use Rattle.pc_rule_law.specs.Past.{Has}
 use Rattle.pc_rule_law.specs.Plays.{AddsNotes, IsNotedSince}
 use Rattle.pc_rule_law.specs.Views.{View, held}
 use Rattle.pc_protocol.specs.Notes.{Note, outdated}
-use Rattle.pc_exchange_law.specs.Attempts.{AttemptNote, KnowsEntry}
+use Rattle.pc_exchange_law.specs.Attempts.{AttemptNote, KnowsEntry, KnowsVisit}
 use Rattle.pc_exchange_law.specs.Ties.{code}
 use Rattle.pc_exchange_law.specs.Wholes.{Whole}
 use Rattle.pc_rule.specs.declared.refs.Ref.{Ref}
@@ -20,6 +21,7 @@ use Rattle.pc_kcas.specs.declared.obstacle.Obstacle.TheVariants.{Decided, Change
 -- the pass goes on: it knows what it knew, and its own attempt is as it was
 pub record GoesOn (x y : Whole) : Type 0 where
   pub adds : AddsNotes x.view y.view
+  pub size : y.view.size ≡ x.view.size
   pub attempt : KeepsAttempt x.view y.view
   pub noted : (n : AttemptNote) → Has x.knows.noted n → Has y.knows.noted n
   pub told : (n : Note) → Has x.knows.told n → Has y.knows.told n
@@ -29,10 +31,12 @@ pub record GoesOn (x y : Whole) : Type 0 where
 abbrev pub IsNotOwn : View → Ref → Type 0
 IsNotOwn v r = r.kind ≡ AnInstall → r.seat ≢ v.seat
 
--- the word is one of this exchange
+-- the word is one that this exchange changes, or the version of a node that it visits
 abbrev pub IsWordOf : Whole → Ref → ℕ → Field → Type 0
-IsWordOf y exchange n f = (i : ℕ) × (old : ℕ) × (new : ℕ)
-    × KnowsEntry y.knows.noted y.view.seat y.knows.own exchange.seat exchange.number i n f old new
+IsWordOf y exchange n f = ((i : ℕ) × (old : ℕ) × (new : ℕ)
+    × KnowsEntry y.knows.noted y.view.seat y.knows.own exchange.seat exchange.number i n f old new)
+    ⊎ ((f ≡ Version) × (i : ℕ) × (v : ℕ)
+    × KnowsVisit y.view.size.slots y.knows.noted y.view.seat y.knows.own exchange.seat exchange.number i n v)
 
 -- two different references of one kind stood in a word of an exchange since, one after the other. Neither is that exchange's own,
 -- nor that of an install of the pass

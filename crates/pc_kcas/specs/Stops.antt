@@ -1,5 +1,5 @@
 -- What stops the words of a pass's own exchange, and which two references it answers then.
-use Rattle.std.specs.Prelude.{◌≡◌, ◌≢◌, ◌⊎◌, ℕ, ◌+◌, ◌-◌, Option, Some, None}
+use Rattle.std.specs.Prelude.{◌≡◌, ◌≢◌, ◌⊎◌, ℕ, ◌+◌, ◌-◌}
 use mathlib.Core.Option.{some}
 use lib.ListN.{get_elem?}
 use Rattle.pc_model.specs.declared.cell.Field.{Field}
@@ -59,11 +59,6 @@ AreInTheWay (IsStuckThere (Two one two)) first second = (first ≡ one) × (seco
 AreInTheWay (IsStuckThere (NoLink met)) first second = ⊥
 AreInTheWay (Beyond met stuck) first second = (first ≡ met) × IsStopOf met stuck second
 AreInTheWay (OutOfNumbers n) first second = ⊥
-
--- and the words were stopped by them
-abbrev pub WereStoppedBy : Option Stop → Ref → Ref → Type 0
-WereStoppedBy None first second = ⊥
-WereStoppedBy (Some stop) first second = AreInTheWay stop.obstacle first second
 
 module _ {H : Type 0} {S : Ghosts H} where
   -- the pass has met this obstacle since in the word at this index of its list

@@ -1,7 +1,8 @@
 -- What clauses say of the end of an exchange.
-use Rattle.std.specs.Prelude.{◌≡◌, ◌≢◌, ◌⊎◌, ℕ, ◌+◌, ◌-◌, ◌≤◌}
+use Rattle.std.specs.Prelude.{◌≡◌, ◌≢◌, ◌⊎◌, ℕ, ◌+◌, ◌-◌, ◌≤◌, Option, Some, None}
 use Rattle.pc_model.specs.declared.cell.Counter.TheVariants.{Stamp}
 use Rattle.pc_model.specs.declared.cell.Field.{Field}
+use Rattle.pc_model.specs.declared.cell.Field.TheVariants.{Version}
 use Rattle.pc_model.specs.declared.numbers.Numbers.{Numbers}
 use Rattle.pc_model.specs.declared.shape.Shape.{Ghosts}
 use Rattle.pc_model.specs.Exchanges.{Exchange}
@@ -13,7 +14,7 @@ use Rattle.pc_rule_law.specs.Plays.{AddsNotes, IsNotedSince}
 use Rattle.pc_rule_law.specs.Views.{View}
 use Rattle.pc_protocol.specs.Histories.{Cause, withdrawn, ended, changed, locked, committed, aborted}
 use Rattle.pc_protocol.specs.Notes.{Note, clock_was, outdated, published, rival, verdict}
-use Rattle.pc_exchange_law.specs.Attempts.{AttemptNote}
+use Rattle.pc_exchange_law.specs.Attempts.{AttemptNote, KnowsWord, KnowsEntry, KnowsVisit}
 use Rattle.pc_exchange_law.specs.Ties.{code, last_stamp}
 use Rattle.pc_exchange_law.specs.WholePlays.{after_clear}
 use Rattle.pc_exchange_law.specs.Wholes.{Whole}
@@ -23,7 +24,9 @@ use Rattle.pc_rule.specs.Passes.{whole, view}
 use Rattle.pc_dcss.specs.Installs.{met_note}
 use Rattle.pc_kcas.specs.Exchanges.{own_exchange}
 use Rattle.pc_kcas.specs.Helping.{IsStoppedBy}
-use Rattle.pc_kcas.specs.Obstacles.{GoesOn, IsNotOwn, IsWordOf}
+use Rattle.pc_kcas.specs.Obstacles.{GoesOn, IsNotOwn, IsStuckAt}
+use Rattle.pc_kcas.specs.Stops.{AreInTheWay}
+use Rattle.pc_kcas.specs.declared.answering.Stop.{Stop}
 use Rattle.pc_kcas.specs.Settling.{IsSettled}
 use Rattle.pc_kcas.specs.Takings.{IsAtLastInstall, HoldsBelow}
 use Rattle.pc_kcas.specs.declared.verdict.Verdict.{Verdict}
@@ -70,20 +73,36 @@ pub record KeepsAll (x y : Whole) : Type 0 where
 abbrev pub KnewBetween : Whole → Whole → (Whole → Type 0) → Type 0
 KnewBetween x y X = (u : Whole) × GoesOn x u × HasEnded u y × X u
 
+-- how the exchange has come to this word: it changes the word, and each of its words before that one was seen to hold its reference; or
+-- it visits the node whose version the word is, and each of its words was
+pub data HasReached (y : Whole) (op : Ref) (n : ℕ) (f : Field) : Type 0 where
+  changes : (i old new : ℕ) → KnowsEntry y.knows.noted y.view.seat y.knows.own op.seat op.number i n f old new → HoldsBelow y op i → HasReached y op n f
+  visits : (i v count : ℕ) → f ≡ Version → KnowsVisit y.view.size.slots y.knows.noted y.view.seat y.knows.own op.seat op.number i n v
+      → KnowsWord y.knows.noted y.view.seat y.knows.own op.seat op.number 1 count → HoldsBelow y op count → HasReached y op n f
+
 -- This reference stood since in a word of the own exchange, whose words before that one were each seen to hold its own reference. Then
 -- there stood another one of the first one's kind; or the help of the first one's exchange was stopped by it. Neither is that of an
 -- install of the pass, nor, in that word, of the own exchange.
 pub record IsBlocked (links : ℕ) (v : View) (y : Whole) (own first second : Ref) : Type 0 where
   pub node : ℕ
   pub field : Field
-  pub word : IsWordOf y own node field
-  pub before : HoldsBelow y own word.0
+  pub reached : HasReached y own node field
   pub stood : IsNotedSince v y.view (met_note first.kind first.seat first.number node field)
   pub not_its_own : first ≢ own
   pub not_own : IsNotOwn y.view first × IsNotOwn y.view second
   pub different : second ≢ first
   pub then : ((second.kind ≡ first.kind) × IsNotedSince v y.view (met_note second.kind second.seat second.number node field) × (second ≢ own))
       ⊎ IsStoppedBy links v y first second
+
+-- two references stood in the version of a node that the exchange visits, each of whose words held its reference; as the pass knew before
+-- that ended
+abbrev pub HasMetVisited : Whole → Whole → Ref → Ref → Ref → Type 0
+HasMetVisited x y op first second = KnewBetween x y (λ u. (n : ℕ) × IsStuckAt x u op n Version first second × HasReached u op n Version)
+
+-- these references stopped the words of the exchange, or stood in the version of a node that it visits
+abbrev pub WereBlockedBy : Option Stop → Whole → Whole → Ref → Ref → Ref → Type 0
+WereBlockedBy None x y op first second = HasMetVisited x y op first second
+WereBlockedBy (Some stop) x y op first second = AreInTheWay stop.obstacle first second
 
 module _ {H : Type 0} {S : Ghosts H} where
   -- two references stood in the way of the pass's exchange, as it knew before that ended

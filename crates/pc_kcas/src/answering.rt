@@ -1,11 +1,12 @@
 //! The answer of an exchange to its own pass, by what stopped its words.
 ghost use Rattle.std.specs.Prelude.{◌≡◌, ◌≢◌, ◌⊎◌, ◌<◌, ℕ, length, IfSome, IfNone};
+ghost use Rattle.pc_rule_law.specs.Conditions.{IsFree};
 ghost use Rattle.pc_rule.specs.Passes.{whole, view, listed, IsPassOf, IsSamePass};
 ghost use Rattle.pc_kcas.specs.declared.obstacle.Obstacle.TheVariants.{Stuck as IsStuckThere, Beyond};
 ghost use Rattle.pc_kcas.specs.Clearing.{HoldsListed, IsCleanAt};
-ghost use Rattle.pc_kcas.specs.Exchanges.{IsPublished};
-ghost use Rattle.pc_kcas.specs.Stops.{IsTwo, IsStopOf, AreInTheWay, WereStoppedBy, KnowsStopAt};
-ghost use Rattle.pc_kcas.specs.Verdicts.{HasEnded, EndedSo, IsBlockedSo};
+ghost use Rattle.pc_kcas.specs.Exchanges.{IsPublished, own_exchange};
+ghost use Rattle.pc_kcas.specs.Stops.{IsTwo, IsStopOf, AreInTheWay, KnowsStopAt};
+ghost use Rattle.pc_kcas.specs.Verdicts.{HasEnded, EndedSo, IsBlockedSo, WereBlockedBy};
 
 use crate::ending::{end_changed, end_decided, end_held, end_withdrawn};
 use crate::obstacle::{Obstacle, Stuck};
@@ -39,8 +40,8 @@ pub(crate) fn stop_of(op: Ref, stuck: Stuck) -> Ref
     }
 }
 
-// The answer of an exchange that met two references in one of its words.
-fn blocked_at(stuck: Stuck) -> Verdict
+/// The answer of an exchange that met two references in one word.
+pub(crate) fn blocked_at(stuck: Stuck) -> Verdict
     requires { IsTwo stuck }
     ensures { IsBlockedSo result (AreInTheWay (IsStuckThere stuck)) }
 {
@@ -91,6 +92,7 @@ pub(crate) fn end_at<H: Shape>(
     stopped: Option<Stop>,
 ) -> Verdict
     requires pass { IsPassOf board.now pass.old }
+    requires free { IsFree (view pass.old) }
     requires published { IsPublished pass.old }
     requires held { IfNone stopped (HoldsListed pass.old) }
     requires index { IfSome stopped (λ stop. stop.at < length (listed pass.old)) }
@@ -98,7 +100,7 @@ pub(crate) fn end_at<H: Shape>(
     ensures pass { IsSamePass pass.old pass.new }
     ensures ended { HasEnded (whole pass.old) (whole pass.new) }
     ensures clean { (i : ℕ) → i < length (listed pass.new) → IsCleanAt pass.new i }
-    ensures so { EndedSo (whole pass.new) (view pass.new).attempt.number result (WereStoppedBy stopped) }
+    ensures so { EndedSo (whole pass.new) (view pass.new).attempt.number result (WereBlockedBy stopped (whole pass.old) (whole pass.new) (own_exchange pass.old)) }
 {
     match stopped {
         None => end_held(board, pass),

@@ -1,24 +1,29 @@
 //! The words of another's exchange, each read and then held.
 ghost use Rattle.std.specs.Prelude.{◌≡◌, ◌+◌, ◌-◌, ◌*◌, ◌<◌, ◌≤◌, IfSome, IfNone};
 ghost use Rattle.pc_rule_law.specs.Conditions.{IsFree};
+ghost use Rattle.pc_rule_law.specs.Plays.{AddsNotes};
+ghost use Rattle.pc_exchange_law.specs.Ties.{last_stamp};
+ghost use Rattle.pc_exchange_law.specs.Wholes.{Whole};
 ghost use Rattle.pc_rule.specs.declared.refs.RefKind.TheVariants.{Exchange};
 ghost use Rattle.pc_rule.specs.Passes.{whole, view, board_size, IsPassOf, IsSamePass};
 ghost use Rattle.pc_kcas.specs.Bounds.{HasInstalled};
 ghost use Rattle.pc_kcas.specs.Collecting.{IsHaltedBy};
-ghost use Rattle.pc_kcas.specs.Concluding.{TellsCourse};
+ghost use Rattle.pc_kcas.specs.Checking.{HasDrawn, KnowsCounts, AreFew, HasFailed, HasSettled};
 ghost use Rattle.pc_kcas.specs.Holds.{halt_at};
 ghost use Rattle.pc_kcas.specs.Obstacles.{GoesOn, HasFollowed};
-ghost use Rattle.pc_kcas.specs.Readings.{HasComeTo, HasLoaded, HasRead};
-ghost use Rattle.pc_kcas.specs.Settling.{HasLearnt, IsSettled};
+ghost use Rattle.pc_kcas.specs.Readings.{HasComeTo, HasLoaded};
+ghost use Rattle.pc_kcas.specs.Settling.{HasLearnt};
 ghost use Rattle.pc_kcas.specs.Takings.{HoldsAt, HoldsBelow};
 
-use crate::deciding::decide_held;
+use crate::checking::{Failed, check_visits};
+use crate::deciding::{decide, decide_changed, decide_locked, draw};
+use crate::drawn::Drawn;
 use crate::hold::hold_word;
-use crate::obstacle::Obstacle;
-use crate::reading::read_place;
+use crate::obstacle::{Obstacle, Stuck};
+use crate::reading::{Counts, read_place};
 use pc_model::Shape;
 use pc_rule::{Board, Pass, Ref};
-use pc_words::Status;
+use pc_words::{Stage, Status};
 
 /// What stops the words of an exchange.
 #[derive(Clone, Copy)]
@@ -137,25 +142,91 @@ pub(crate) fn collect<H: Shape>(
     }
 }
 
-/// Decides the exchange, each word of which held its reference: it took effect at a stamp that is drawn for it, or it is withdrawn
-/// where the clock has come to its last stamp. Where another decided it first, that stands.
-pub(crate) fn decide_collected<H: Shape>(
+/// What came of the decision of an exchange each word of which held its reference.
+#[derive(Clone, Copy)]
+pub(crate) enum Settled {
+    /// It was decided, as this status of its pass says.
+    By(Status),
+    /// This status of its pass isn't the exchange's any more.
+    Over(Status),
+    /// It is stuck at what stood in the version of a node that it visits.
+    Stuck(Stuck),
+}
+
+// Decides the exchange by what keeps it from taking effect.
+fn settle_failed<H: Shape>(
     board: &Board<H>,
     pass: &mut Pass<H>,
     op: Ref,
-    count: u32,
-) -> Status
+    stamp: u64,
+    failed: Failed,
+) -> Settled
     requires pass { IsPassOf board.now pass.old }
-    requires exchange { op.kind ≡ Exchange }
     requires come { HasComeTo (whole pass.old) op }
-    requires counted { HasRead (whole pass.old) op 1 count }
-    requires none { HasRead (whole pass.old) op 2 0 }
-    requires holds { HoldsBelow (whole pass.old) op count }
+    requires drawn { HasDrawn (whole pass.old) op stamp }
+    requires failed { (x : Whole) × HasFailed x (whole pass.old) op stamp failed }
     ensures pass { IsSamePass pass.old pass.new }
     ensures learnt { HasLearnt (whole pass.old) (whole pass.new) }
-    ensures settled { IsSettled (whole pass.new) op.seat op.number result }
-    ensures course { TellsCourse (whole pass.old) (whole pass.new) op result }
+    ensures came { (x : Whole) → AddsNotes x.view (view pass.old) → HasFailed x (whole pass.old) op stamp failed → HasSettled x (whole pass.new) op result }
 {
-    let _ = count;
-    decide_held(board, pass, op)
+    let _ = stamp;
+    match failed {
+        Failed::Over(status) => Settled::Over(status),
+        Failed::Changed { node } => Settled::By(decide_changed(board, pass, op, node)),
+        Failed::Locked { node, by } => Settled::By(decide_locked(board, pass, op, node, by)),
+        Failed::Stuck(stuck) => Settled::Stuck(stuck),
+    }
+}
+
+// Decides the exchange, for which a stamp was drawn: it took effect at the stamp where each node that it visits passes its check.
+fn settle_drawn<H: Shape>(
+    board: &Board<H>,
+    pass: &mut Pass<H>,
+    op: Ref,
+    counts: Counts,
+    stamp: u64,
+) -> Settled
+    requires pass { IsPassOf board.now pass.old }
+    requires free { IsFree (view pass.old) }
+    requires exchange { op.kind ≡ Exchange }
+    requires come { HasComeTo (whole pass.old) op }
+    requires drawn { HasDrawn (whole pass.old) op stamp }
+    requires early { stamp < last_stamp }
+    requires counts { KnowsCounts (whole pass.old) op counts }
+    requires few { AreFew (board_size board.now).slots counts }
+    ensures pass { IsSamePass pass.old pass.new }
+    ensures learnt { HasLearnt (whole pass.old) (whole pass.new) }
+    ensures came { HasSettled (whole pass.old) (whole pass.new) op result }
+{
+    match check_visits(board, pass, op, counts, stamp) {
+        None => Settled::By(decide(board, pass, op, Stage::Succeeded { stamp })),
+        Some(failed) => settle_failed(board, pass, op, stamp, failed),
+    }
+}
+
+/// Decides the exchange, each word of which held its reference: it took effect at a stamp that is drawn for it, or it failed since a
+/// node that it visits didn't pass its check, or it is withdrawn where the clock has come to its last stamp. Where another decided
+/// it first, that stands.
+pub(crate) fn settle_collected<H: Shape>(
+    board: &Board<H>,
+    pass: &mut Pass<H>,
+    op: Ref,
+    counts: Counts,
+) -> Settled
+    requires pass { IsPassOf board.now pass.old }
+    requires free { IsFree (view pass.old) }
+    requires exchange { op.kind ≡ Exchange }
+    requires come { HasComeTo (whole pass.old) op }
+    requires counts { KnowsCounts (whole pass.old) op counts }
+    requires few { AreFew (board_size board.now).slots counts }
+    requires holds { HoldsBelow (whole pass.old) op counts.changes }
+    ensures pass { IsSamePass pass.old pass.new }
+    ensures learnt { HasLearnt (whole pass.old) (whole pass.new) }
+    ensures came { HasSettled (whole pass.old) (whole pass.new) op result }
+{
+    match draw(board, pass, op) {
+        Drawn::Stamp(stamp) => settle_drawn(board, pass, op, counts, stamp),
+        Drawn::Refused(_) => Settled::By(decide(board, pass, op, Stage::Withdrawn)),
+        Drawn::Past(status) => Settled::By(status),
+    }
 }

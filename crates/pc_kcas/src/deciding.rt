@@ -5,17 +5,18 @@ ghost use Rattle.pc_rule_law.specs.Past.{Has};
 ghost use Rattle.pc_rule_law.specs.Stages.{IsOpen, decided_by};
 ghost use Rattle.pc_rule_law.specs.Views.{IsAttempt, decided_below};
 ghost use Rattle.pc_words.specs.Statuses.{StageInRange};
-ghost use Rattle.pc_protocol.specs.Histories.{withdrawn, aborted};
+ghost use Rattle.pc_protocol.specs.Histories.{withdrawn, locked, aborted};
+ghost use Rattle.pc_exchange_law.specs.ExchangeConditions.{MayFail};
 ghost use Rattle.pc_protocol.specs.Notes.{clock_was, drew, verdict, outdated};
 ghost use Rattle.pc_exchange_law.specs.Ties.{code, last_stamp};
 ghost use Rattle.pc_rule.specs.declared.refs.RefKind.TheVariants.{Exchange};
 ghost use Rattle.pc_rule.specs.Passes.{whole, view, knows, aim, board_size, IsPassOf, IsSamePass, HasNode};
 ghost use Rattle.pc_kcas.specs.Concluding.{TellsCourse};
-ghost use Rattle.pc_kcas.specs.Settling.{HasLearnt, HasLearntOrWithdrawn, KnowsOf, StandsAt, IsSettled, TellsFailure, HoldsEach, KnowsNoVisits, MaySettle, OwnsPublished, IfStamp, IfRefused, IfPast};
+ghost use Rattle.pc_kcas.specs.Settling.{HasLearnt, HasLearntOrWithdrawn, KnowsOf, StandsAt, IsSettled, TellsFailure, HoldsEach, MaySettle, OwnsPublished, IfStamp, IfRefused, IfPast};
 
 use crate::drawn::Drawn;
 use pc_model::Shape;
-use pc_rule::{Board, Pass, Ref, step_7, step_9, step_13, step_14, step_14_own};
+use pc_rule::{Board, Pass, Ref, step_7, step_9, step_13, step_14, step_14_own, step_18};
 use pc_words::{Stage, Status, pack, unpack};
 
 // The last stamp.
@@ -147,6 +148,40 @@ pub(crate) fn decide_changed<H: Shape>(
     decide(board, pass, op, Stage::Changed { node })
 }
 
+/// Decides an exchange of which another pass was a rival for this node, at one of its stamps: it failed since that pass holds the
+/// node's version. Where another decided it first, that stands.
+pub(crate) fn decide_locked<H: Shape>(
+    board: &Board<H>,
+    pass: &mut Pass<H>,
+    op: Ref,
+    node: u32,
+    by: u32,
+) -> Status
+    requires pass { IsPassOf board.now pass.old }
+    requires attempt { IsAttempt (board_size board.now) op.seat op.number }
+    requires known { KnowsOf (view pass.old) op.seat op.number }
+    requires node { HasNode board.now node }
+    requires by { by < 32 }
+    requires may { MayFail (view pass.old) (knows pass.old) op.seat op.number (locked node by) }
+    ensures pass { IsSamePass pass.old pass.new }
+    ensures learnt { HasLearnt (whole pass.old) (whole pass.new) }
+    ensures settled { IsSettled (whole pass.new) op.seat op.number result }
+    ensures range { StageInRange result.stage }
+    ensures failure { TellsFailure (whole pass.old) (whole pass.new) op.seat result }
+    ensures course { TellsCourse (whole pass.old) (whole pass.new) op result }
+{
+    let old = pack(Status {
+        number: op.number,
+        stage: Stage::Undecided,
+    });
+    let new = pack(Status {
+        number: op.number,
+        stage: Stage::Locked { node, seat: by },
+    });
+    step_18(board, pass, op.seat + 1, old, new);
+    load_status(board, pass, op)
+}
+
 /// The pass withdraws its own attempt. Where another decided it first, that stands, and the status is answered.
 pub(crate) fn withdraw<H: Shape>(board: &Board<H>, pass: &mut Pass<H>) -> Option<Status>
     requires pass { IsPassOf board.now pass.old }
@@ -173,26 +208,4 @@ pub(crate) fn withdraw<H: Shape>(board: &Board<H>, pass: &mut Pass<H>) -> Option
         return None;
     }
     Some(unpack(found))
-}
-
-/// Decides an exchange each of whose words holds its reference: it takes effect at a stamp that is drawn for it, or is withdrawn
-/// where the clock has come to its last stamp. Where another decided it first, that stands.
-pub(crate) fn decide_held<H: Shape>(board: &Board<H>, pass: &mut Pass<H>, op: Ref) -> Status
-    requires pass { IsPassOf board.now pass.old }
-    requires exchange { op.kind ≡ Exchange }
-    requires attempt { IsAttempt (board_size board.now) op.seat op.number }
-    requires held { HoldsEach (whole pass.old) op.seat op.number }
-    requires visits { KnowsNoVisits (whole pass.old) op.seat op.number }
-    ensures pass { IsSamePass pass.old pass.new }
-    ensures learnt { HasLearnt (whole pass.old) (whole pass.new) }
-    ensures settled { IsSettled (whole pass.new) op.seat op.number result }
-    ensures range { StageInRange result.stage }
-    ensures failure { TellsFailure (whole pass.old) (whole pass.new) op.seat result }
-    ensures course { TellsCourse (whole pass.old) (whole pass.new) op result }
-{
-    match draw(board, pass, op) {
-        Drawn::Stamp(stamp) => decide(board, pass, op, Stage::Succeeded { stamp }),
-        Drawn::Refused(_) => decide(board, pass, op, Stage::Withdrawn),
-        Drawn::Past(status) => status,
-    }
 }

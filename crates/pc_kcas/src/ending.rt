@@ -2,6 +2,7 @@
 ghost use Rattle.std.specs.Prelude.{◌≡◌, ◌<◌, ℕ, length};
 ghost use Rattle.pc_exchange_law.specs.Ties.{code};
 ghost use Rattle.pc_protocol.specs.Notes.{outdated};
+ghost use Rattle.pc_rule_law.specs.Conditions.{IsFree};
 ghost use Rattle.pc_rule_law.specs.Past.{Has};
 ghost use Rattle.pc_rule.specs.Passes.{whole, view, knows, listed, IsPassOf, IsSamePass};
 ghost use Rattle.pc_words.specs.declared.status.Stage.TheVariants.{Withdrawn, Changed as ChangedNode};
@@ -9,12 +10,14 @@ ghost use Rattle.pc_words.specs.Statuses.{StageInRange};
 ghost use Rattle.pc_dcss.specs.Installs.{IsDecided};
 ghost use Rattle.pc_kcas.specs.declared.verdict.Verdict.TheVariants.{Blocked};
 ghost use Rattle.pc_kcas.specs.Clearing.{says_success, HoldsListed, IsCleanAt};
-ghost use Rattle.pc_kcas.specs.Exchanges.{IsPublished, IsUncleared};
-ghost use Rattle.pc_kcas.specs.Verdicts.{KnowsWhy, HasEnded, EndedSo, IsReason, answer_by};
+ghost use Rattle.pc_kcas.specs.Exchanges.{IsPublished, IsUncleared, own_exchange};
+ghost use Rattle.pc_kcas.specs.Verdicts.{KnowsWhy, HasEnded, HasMetVisited, EndedSo, IsReason, answer_by};
 
+use crate::answering::blocked_at;
 use crate::clearing::clear;
-use crate::deciding::{decide, decide_held, load_status, withdraw};
+use crate::deciding::{decide, load_status, withdraw};
 use crate::own::own_ref;
+use crate::own_deciding::decide_own;
 use crate::verdict::Verdict;
 use pc_model::{Counter, Numbers, Shape};
 use pc_rule::{Board, Pass};
@@ -74,19 +77,23 @@ fn conclude<H: Shape>(board: &Board<H>, pass: &mut Pass<H>, status: Status) -> V
     answer(status.stage, clock)
 }
 
-/// Ends the pass's published exchange, each word of which holds its reference.
+/// Ends the pass's published exchange, each word of which holds its reference. The pass withdraws it where it is stuck at what stood in
+/// the version of a node that it visits.
 pub(crate) fn end_held<H: Shape>(board: &Board<H>, pass: &mut Pass<H>) -> Verdict
     requires pass { IsPassOf board.now pass.old }
+    requires free { IsFree (view pass.old) }
     requires published { IsPublished pass.old }
     requires held { HoldsListed pass.old }
     ensures pass { IsSamePass pass.old pass.new }
     ensures ended { HasEnded (whole pass.old) (whole pass.new) }
     ensures clean { (i : ℕ) → i < length (listed pass.new) → IsCleanAt pass.new i }
-    ensures so { EndedSo (whole pass.new) (view pass.new).attempt.number result (λ first second. ⊥) }
+    ensures so { EndedSo (whole pass.new) (view pass.new).attempt.number result (HasMetVisited (whole pass.old) (whole pass.new) (own_exchange pass.old)) }
 {
     let op = own_ref(board, pass);
-    let status = decide_held(board, pass, op);
-    conclude(board, pass, status)
+    match decide_own(board, pass, op) {
+        Ok(status) => conclude(board, pass, status),
+        Err(stuck) => end_withdrawn(board, pass, blocked_at(stuck)),
+    }
 }
 
 /// Ends the pass's published exchange, which is known to be outdated at this node: it failed since that changed, where it isn't

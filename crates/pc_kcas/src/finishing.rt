@@ -1,7 +1,7 @@
 //! The end of an exchange by its own pass, as that calls for it.
 ghost use Rattle.std.specs.Prelude.{◌≡◌, ◌<◌, ◌≤◌, ◌-◌, ◌+◌, ℕ, [], false, length, IfSome, IfNone};
 ghost use Rattle.pc_rule_law.specs.Conditions.{CanWrite, IsFree};
-ghost use Rattle.pc_rule.specs.Passes.{whole, view, listed, board_size, IsPassOf, IsSeatedAs, IsSamePass};
+ghost use Rattle.pc_rule.specs.Passes.{whole, view, listed, board_size, IsPassOf, IsSeatedAs, IsSamePass, KeepsPath};
 ghost use Rattle.pc_kcas.specs.Bounds.{most_in_help, most_in_end};
 ghost use Rattle.pc_kcas.specs.Clearing.{HoldsListed, LeavesClean};
 ghost use Rattle.pc_kcas.specs.Exchanges.{IsPublished, IsHeldAt, own_exchange};
@@ -76,6 +76,7 @@ pub fn finish<H: Shape>(board: &Board<H>, pass: &mut Pass<H>) -> Verdict
     requires published { IsPublished pass.old }
     requires free { IsFree (view pass.old) }
     ensures seated { IsSeatedAs pass.old pass.new }
+    ensures path { KeepsPath pass.old pass.new }
     ensures open { CanWrite (view pass.new) }
     ensures number { (view pass.new).attempt.number ≡ (view pass.old).attempt.number }
     ensures dropped { listed pass.new ≡ [] }

@@ -8,6 +8,7 @@ ghost use Rattle.pc_rule.specs.declared.refs.RefKind.TheVariants.{Exchange};
 ghost use Rattle.pc_rule.specs.Passes.{whole, view, board_size, IsPassOf, IsSamePass};
 ghost use Rattle.pc_dcss.specs.Installs.{IsDecided};
 ghost use Rattle.pc_kcas.specs.Bounds.{most_in_one, most_in_help, HasInstalled};
+ghost use Rattle.pc_kcas.specs.Checking.{KnowsCounts, AreFew, HasSettled};
 ghost use Rattle.pc_kcas.specs.Collecting.{HasComeBy, IsHaltedAt, IsHaltedBy, IsStuckWith};
 ghost use Rattle.pc_kcas.specs.Helping.{HasCome, IsOver, IsGoneBy, IsStoppedBy, OnDone, OnGone, IfStopped, IfNumbers};
 ghost use Rattle.pc_kcas.specs.Obstacles.{GoesOn, HasFollowed, IsStuck, IsApartFrom};
@@ -15,12 +16,12 @@ ghost use Rattle.pc_kcas.specs.Readings.{HasComeTo, HasLoaded, HasRead};
 ghost use Rattle.pc_kcas.specs.Takings.{HoldsBelow, IsAtLastInstall};
 
 use crate::answering::stop_of;
-use crate::collecting::{Halt, collect, decide_collected};
+use crate::collecting::{Halt, Settled, collect, settle_collected};
 use crate::concluding::{conclude_helped, ended_by};
 use crate::deciding::{decide_changed, is_open};
 use crate::helped::{Help, Helped, Progress};
 use crate::obstacle::{Obstacle, Stuck};
-use crate::reading::{load_status, read_count};
+use crate::reading::{Counts, load_status, read_counts};
 use pc_model::Shape;
 use pc_rule::{Board, Pass, Ref};
 use pc_words::Status;
@@ -132,23 +133,49 @@ fn end_at<H: Shape>(
     }
 }
 
+// Ends the help of an exchange by what came of its decision.
+fn end_settled<H: Shape>(
+    board: &Board<H>,
+    pass: &mut Pass<H>,
+    op: Ref,
+    count: u32,
+    settled: Settled,
+) -> Progress
+    requires pass { IsPassOf board.now pass.old }
+    requires free { IsFree (view pass.old) }
+    requires come { HasComeTo (whole pass.old) op }
+    requires counted { HasLoaded (whole pass.old) op 1 count }
+    requires read { HasRead (whole pass.old) op 1 count }
+    requires few { count ≤ 25 + (board_size board.now).slots }
+    requires settled { (x : Whole) × HasSettled x (whole pass.old) op settled }
+    ensures pass { IsSamePass pass.old pass.new }
+    ensures goes_on { GoesOn (whole pass.old) (whole pass.new) }
+    ensures free { IsFree (view pass.new) }
+    ensures no_install { (view pass.new).install.number ≡ (view pass.old).install.number }
+    ensures come { HasComeBy (whole pass.old) (whole pass.new) op (λ x left. HasSettled x (whole pass.old) op settled) result }
+{
+    match settled {
+        Settled::By(status) => conclude_helped(board, pass, op, count, status),
+        Settled::Over(status) => ended_by(op, status),
+        Settled::Stuck(stuck) => end_stuck(board, pass, op, count, stuck),
+    }
+}
+
 // Ends the help of an exchange by what stopped its words. Where nothing did, each of them holds its reference, and it is decided.
 fn end_collected<H: Shape>(
     board: &Board<H>,
     pass: &mut Pass<H>,
     op: Ref,
-    count: u32,
+    counts: Counts,
     halt: Option<Halt>,
 ) -> Progress
     requires pass { IsPassOf board.now pass.old }
     requires free { IsFree (view pass.old) }
     requires exchange { op.kind ≡ Exchange }
     requires come { HasComeTo (whole pass.old) op }
-    requires counted { HasLoaded (whole pass.old) op 1 count }
-    requires read { HasRead (whole pass.old) op 1 count }
-    requires none { HasRead (whole pass.old) op 2 0 }
-    requires few { count ≤ 25 + (board_size board.now).slots }
-    requires holds { IfNone halt (HoldsBelow (whole pass.old) op count) }
+    requires counts { KnowsCounts (whole pass.old) op counts }
+    requires few { AreFew (board_size board.now).slots counts }
+    requires holds { IfNone halt (HoldsBelow (whole pass.old) op counts.changes) }
     requires halted { IfSome halt (λ h. (x : Whole) × (left : ℕ) × IsHaltedBy x (whole pass.old) op left h) }
     ensures pass { IsSamePass pass.old pass.new }
     ensures goes_on { GoesOn (whole pass.old) (whole pass.new) }
@@ -158,12 +185,14 @@ fn end_collected<H: Shape>(
 {
     match halt {
         None => {
-            let status = decide_collected(board, pass, op, count);
-            conclude_helped(board, pass, op, count, status)
+            let settled = settle_collected(board, pass, op, counts);
+            end_settled(board, pass, op, counts.changes, settled)
         }
         Some(halt) => match halt {
             Halt::Over(status) => ended_by(op, status),
-            Halt::At { node, obstacle } => end_at(board, pass, op, count, node, obstacle),
+            Halt::At { node, obstacle } => {
+                end_at(board, pass, op, counts.changes, node, obstacle)
+            }
         },
     }
 }
@@ -188,8 +217,8 @@ pub(crate) fn help_linked<H: Shape>(
     ensures bounded { HasInstalled (board_size board.now).slots (most_in_one (board_size board.now).slots) (links - result.links) (view pass.old) (view pass.new) }
     ensures come { HasCome (whole pass.old) (whole pass.new) op result.links result.progress }
 {
-    let count = match read_count(board, pass, op) {
-        Ok(count) => count,
+    let counts = match read_counts(board, pass, op) {
+        Ok(counts) => counts,
         Err(status) => {
             return Help {
                 progress: ended_by(op, status),
@@ -197,8 +226,8 @@ pub(crate) fn help_linked<H: Shape>(
             };
         }
     };
-    let collected = collect(board, pass, op, count, links);
-    let progress = end_collected(board, pass, op, count, collected.halt);
+    let collected = collect(board, pass, op, counts.changes, links);
+    let progress = end_collected(board, pass, op, counts, collected.halt);
     Help {
         progress,
         links: collected.links,

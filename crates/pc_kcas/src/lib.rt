@@ -3,11 +3,12 @@
 //! installs of `pc_dcss` alone, so the rule of the board holds between any two of them.
 //!
 //! Its own pass and those that help it take its words by the same calls (`taking`, `hold`), and draw a stamp for it and decide it
-//! (`deciding`), and clear its words (`clearing`). Another's exchange is read (`reading`), its words are taken in order (`collecting`),
-//! and its help ends (`concluding`); the own one ends as its words stopped (`answering`, `ending`).
+//! (`deciding`), and clear its words (`clearing`). Another's exchange is read (`reading`), its words are taken in order (`collecting`), the
+//! nodes that it visits are checked (`checking`), and its help ends (`concluding`); the own one ends as its words stopped (`answering`, `ending`).
 #![tactic(auto)]
 
 mod answering;
+mod checking;
 mod clearing;
 mod collecting;
 mod concluding;
@@ -23,6 +24,8 @@ mod listing;
 mod mode;
 mod obstacle;
 mod own;
+mod own_checks;
+mod own_deciding;
 mod publishing;
 mod reading;
 mod taking;

@@ -4,12 +4,12 @@ ghost use Rattle.std.specs.List.Sorted.{IsPermutation, IsNonDecreasingBy};
 ghost use Rattle.pc_model.specs.declared.cell.Counter.TheVariants.{Attempt};
 ghost use Rattle.pc_rule_law.specs.Conditions.{CanWrite};
 ghost use Rattle.pc_rule.specs.Listed.{word_number};
-ghost use Rattle.pc_rule.specs.Passes.{view, knows, listed, board_size, IsPassOf, IsSeatedAs};
-ghost use Rattle.pc_kcas.specs.declared.mode.Mode.TheVariants.{Words};
-ghost use Rattle.pc_kcas.specs.Exchanges.{RaisesVersions, FitsInEachOrder, KnowsOldValues, OnlyPublished, IsPublished, KnowsListed, last_attempt};
+ghost use Rattle.pc_rule.specs.Passes.{whole, view, knows, listed, visits, path, board_size, IsPassOf, IsSeatedAs, KeepsPath};
+ghost use Rattle.pc_kcas.specs.Exchanges.{RaisesVersions, FitsByMode, IsUnlocked, KnowsOldValues, OnlyPublished, IsPublished, KnowsListed, KnowsExchange, KnowsAbove, exchange_by, visits_by, last_attempt};
+ghost use Rattle.pc_kcas.specs.Verdicts.{KeepsAll};
 
 use crate::mode::Mode;
-use crate::writing::write_listed;
+use crate::writing::{write_listed, write_visits};
 use pc_model::{Counter, Numbers, Shape};
 use pc_rule::{Board, Pass, step_9, step_11};
 use pc_words::{Stage, Status, pack};
@@ -17,28 +17,56 @@ use pc_words::{Stage, Status, pack};
 // The last number of an attempt.
 const LAST_ATTEMPT: u64 = 268_435_455;
 
+// How many of the pass's visits stand in the descriptor of an exchange of this mode.
+fn visits_of<H: Shape>(board: &Board<H>, pass: &Pass<H>, mode: Mode) -> u32
+    requires pass { IsPassOf board.now pass.now }
+    requires mode { IsUnlocked mode }
+    ensures count { result ≡ length (visits_by mode (path pass.now)) }
+    ensures held { result ≤ length (visits pass.now) }
+{
+    let _ = board;
+    match mode {
+        Mode::Words => 0,
+        Mode::Path => pass.visits().len() as u32,
+        Mode::LockedPath => unreachable!(),
+    }
+}
+
+// The mode word of an exchange with so many visits.
+fn mode_word(visits: u32) -> u64
+    ensures none { visits ≡ 0 → result ≡ 0 }
+    ensures some { 0 < visits → result ≡ 1 }
+{
+    if visits == 0 { 0 } else { 1 }
+}
+
 /// Publishes the words that are listed as the pass's next attempt, in the order of their numbers. Afterwards it is undecided,
 /// and each of these words may be installed. It is refused exactly where the attempt number stands at its last value: then
 /// nothing was written, and the list is dropped. It takes no memory.
 ///
 /// Of each word the old value is known to have stood there while its node had the listed version: the pass read it, or the board
-/// opened so, or an exchange that took effect wrote both.
-/// - `mode`: `Words` alone, until there are paths.
+/// opened so, or an exchange that took effect wrote both. The clock before the publication is above each stamp that the pass has seen.
+/// - `mode`: `Words`, or `Path`; `LockedPath` not yet. By `Path` the exchange visits what the pass visited, and it takes effect only where
+///   each of these nodes is then as it was visited, or the exchange changes it from that version.
 /// Source: Harris, Fraser and Pratt (2002), with numbered descriptors as those of Arbel-Raviv and Brown (2017).
 pub fn publish<H: Shape>(board: &Board<H>, pass: &mut Pass<H>, mode: Mode) -> Result<(), Numbers>
     requires pass { IsPassOf board.now pass.old }
     requires open { CanWrite (view pass.old) }
     requires some { 0 < length (listed pass.old) }
     requires raises { RaisesVersions (listed pass.old) }
-    requires fits { FitsInEachOrder H.form (view pass.old).size.slots (listed pass.old) }
+    requires fits { FitsByMode H.form (view pass.old).size.slots mode (path pass.old) (listed pass.old) }
     requires old { KnowsOldValues (board_size board.now) (knows pass.old) (listed pass.old) }
-    requires mode { mode ≡ Words }
+    requires mode { IsUnlocked mode }
     ensures seated { IsSeatedAs pass.old pass.new }
+    ensures path { KeepsPath pass.old pass.new }
+    ensures kept { KeepsAll (whole pass.old) (whole pass.new) }
     ensures only { OnOk result (OnlyPublished (view pass.old) (view pass.new)) }
     ensures published { OnOk result (IsPublished pass.new) }
     ensures each { OnOk result (IsPermutation (listed pass.old) (listed pass.new)) }
     ensures rising { OnOk result (IsNonDecreasingBy word_number (listed pass.new)) }
     ensures known { OnOk result (KnowsListed pass.new) }
+    ensures noted { OnOk result (KnowsExchange (whole pass.new) (exchange_by mode (path pass.old) (listed pass.new))) }
+    ensures above { OnOk result (KnowsAbove (knows pass.old).told (whole pass.new) (exchange_by mode (path pass.old) (listed pass.new))) }
     ensures refused { IfErr result (λ n. (n.counter ≡ Attempt) × (n.at ≡ (view pass.old).attempt.number) × (last_attempt ≤ n.at)) }
     ensures dropped { OnErr result ((view pass.new ≡ view pass.old) × (listed pass.new ≡ [])) }
     ensures last { last_attempt ≤ (view pass.old).attempt.number → IsErr result }
@@ -51,10 +79,11 @@ pub fn publish<H: Shape>(board: &Board<H>, pass: &mut Pass<H>, mode: Mode) -> Re
             at: last,
         });
     }
-    let _ = mode;
+    let visits = visits_of(board, pass, mode);
     step_9(board, pass);
     pass.sort_listed();
-    write_listed(board, pass);
+    write_listed(board, pass, mode_word(visits), visits);
+    write_visits(board, pass, visits);
     let status = pack(Status {
         number: last + 1,
         stage: Stage::Undecided,

@@ -1,5 +1,5 @@
 -- One word, the words of an exchange, and its help: of each what was noted in its calls, one after the other.
-use Rattle.std.proofs.Common.{◌≡◌, ◌≤◌, ◌+◌, ◌-◌, ◌*◌, ◌∙◌, Option, None, IfSome, IfNone, rules, arith, refl, sym, subst}
+use Rattle.std.proofs.Common.{◌≡◌, ◌≤◌, ◌+◌, ◌-◌, ◌*◌, ◌∙◌, Option, None, IfSome, IfNone, rules, arith, refl, sym, subst, inl}
 use Rattle.pc_rule_law.specs.Plays.{AddsNotes}
 use Rattle.pc_rule_law.specs.Views.{held}
 use Rattle.pc_rule.specs.Passes.{whole, view, board_size}
@@ -9,7 +9,7 @@ use Rattle.pc_kcas.specs.declared.collecting.Halt.{Halt}
 use Rattle.pc_kcas.specs.Bounds.{most_in_one}
 use Rattle.pc_kcas.specs.Collecting.{IsHaltedBy}
 use Rattle.pc_kcas.specs.Takings.{HoldsAt}
-use Rattle.pc_kcas.proofs.Collected.{come_goes, loaded_goes, read_goes, holds_more, holds_word, halted_word, halted_since, halted_if, node_of}
+use Rattle.pc_kcas.proofs.Collected.{come_goes, loaded_goes, counts_goes, holds_more, holds_word, halted_word, halted_since, halted_if, node_of}
 use Rattle.pc_kcas.proofs.Concluded.{come_over}
 use Rattle.pc_kcas.proofs.Counted.{none_installed, installs_none, installs_more, installs_same, installs_further, word_once, word_helped, word_twice, all_words}
 use Rattle.pc_kcas.proofs.Courses.{past_over, decided_noted}
@@ -98,7 +98,7 @@ collecting::collect_word-returns-in-Ok-clause-halted g t c =
     subst (λ (o : Option Halt). IfSome o (IsHaltedBy x z c.args.op h.result.links)) (sym c.halted.ensures)
     (halted_word x u z c.args.op at c.args.links h.result.links h.result.obstacle c.read_place.ensures.later.adds
     (node_of (board_size c.args.board.now) u.view z.view c.args.op at of_u.1 of_z.1 (notes_ranged c.args.board.now c.read_place.new.pass of_u) c.in-Ok.ensures.place)
-    (is_word_goes u z h.ensures.goes_on h.ensures.pass.0.2 c.args.op at.node at.field (c.args.i, at.old, at.new, c.in-Ok.ensures.entry)) h.ensures.obstacle)
+    (is_word_goes u z h.ensures.goes_on h.ensures.pass.0.2 c.args.op at.node at.field (inl (c.args.i, at.old, at.new, c.in-Ok.ensures.entry))) h.ensures.obstacle)
 
 pub collecting::collect_word-returns-in-Err-clause-free : goal.collecting::collect_word-returns-in-Err-clause-free
 collecting::collect_word-returns-in-Err-clause-free g t c = free_later (view c.args.pass.now) (view c.read_place.new.pass) c.read_place.ensures.later c.requires.free
@@ -111,56 +111,48 @@ collecting::collect_word-returns-in-Err-clause-halted g t c = let e = c.in-Err.e
 -- ---- the help of an exchange
 
 pub helping::help_linked-returns-in-Err-clause-come : goal.helping::help_linked-returns-in-Err-clause-come
-helping::help_linked-returns-in-Err-clause-come g t c = let e = c.in-Err.ensures in let x = whole c.args.pass.now in let y = whole c.read_count.new.pass in
+helping::help_linked-returns-in-Err-clause-come g t c = let e = c.in-Err.ensures in let x = whole c.args.pass.now in let y = whole c.read_counts.new.pass in
     let op = c.args.op in
     come_over x y op c.args.links c.in-Err.status c.ended_by.result (past_over y op c.in-Err.status e.over e.ahead (decided_noted x.view y.view op.seat op.number e.decided) e.passed) e.cleaned
     c.ended_by.ensures.decided c.ended_by.ensures.gone
 
 pub helping::help_linked-returns-in-Err-clause-bounded : goal.helping::help_linked-returns-in-Err-clause-bounded
-helping::help_linked-returns-in-Err-clause-bounded g t c = let v = view c.args.pass.now in let u = view c.read_count.new.pass in let z = (board_size c.args.board.now).slots in
-    installs_none z (most_in_one z) (c.args.links - c.args.links) v u (none_installed v u c.read_count.ensures.later)
+helping::help_linked-returns-in-Err-clause-bounded g t c = let v = view c.args.pass.now in let u = view c.read_counts.new.pass in let z = (board_size c.args.board.now).slots in
+    installs_none z (most_in_one z) (c.args.links - c.args.links) v u (none_installed v u c.read_counts.ensures.later)
 
 pub helping::help_linked-returns-clause-bounded : goal.helping::help_linked-returns-clause-bounded
 helping::help_linked-returns-clause-bounded g t c =
-    let k = c.collect-collected in let v = view c.args.pass.now in let u = view c.read_count.new.pass in let w = view k.new.pass in let x = view c.end_collected-progress.new.pass in
+    let k = c.collect-collected in let v = view c.args.pass.now in let u = view c.read_counts.new.pass in let w = view k.new.pass in let x = view c.end_collected-progress.new.pass in
     let z = (board_size c.args.board.now).slots in
-    installs_same z (most_in_one z) (c.args.links - k.result.links) v u w x (none_installed v u c.read_count.ensures.later) c.end_collected-progress.ensures.no_install
-    (all_words z c.in-Ok.count (c.args.links - k.result.links) u w c.in-Ok.ensures.few k.ensures.bounded)
+    installs_same z (most_in_one z) (c.args.links - k.result.links) v u w x (none_installed v u c.read_counts.ensures.later) c.end_collected-progress.ensures.no_install
+    (all_words z c.in-Ok.counts.changes (c.args.links - k.result.links) u w c.in-Ok.ensures.few.0 k.ensures.bounded)
 
 pub helping::help_linked-collect-collected-requires-clause-come : goal.helping::help_linked-collect-collected-requires-clause-come
-helping::help_linked-collect-collected-requires-clause-come g t c = λ _ _. let r = c.read_count.ensures in
-    come_still (whole c.args.pass.now) (whole c.read_count.new.pass) c.args.op r.later r.learns c.requires.come
+helping::help_linked-collect-collected-requires-clause-come g t c = λ _ _. let r = c.read_counts.ensures in
+    come_still (whole c.args.pass.now) (whole c.read_counts.new.pass) c.args.op r.later r.learns c.requires.come
 
 pub helping::help_linked-end_collected-progress-requires-clause-come : goal.helping::help_linked-end_collected-progress-requires-clause-come
-helping::help_linked-end_collected-progress-requires-clause-come g t c = λ _ _. let r = c.read_count.ensures in let u = whole c.read_count.new.pass in
+helping::help_linked-end_collected-progress-requires-clause-come g t c = λ _ _. let r = c.read_counts.ensures in let u = whole c.read_counts.new.pass in
     come_goes u (whole c.collect-collected.new.pass) c.args.op c.collect-collected.ensures.goes_on (come_still (whole c.args.pass.now) u c.args.op r.later r.learns c.requires.come)
 
-pub helping::help_linked-end_collected-progress-requires-clause-counted : goal.helping::help_linked-end_collected-progress-requires-clause-counted
-helping::help_linked-end_collected-progress-requires-clause-counted g t c = λ _ _.
-    loaded_goes (whole c.read_count.new.pass) (whole c.collect-collected.new.pass) c.args.op 1 c.in-Ok.count c.collect-collected.ensures.goes_on c.in-Ok.ensures.loaded
-
-pub helping::help_linked-end_collected-progress-requires-clause-read : goal.helping::help_linked-end_collected-progress-requires-clause-read
-helping::help_linked-end_collected-progress-requires-clause-read g t c = λ _ _.
-    read_goes (whole c.read_count.new.pass) (whole c.collect-collected.new.pass) c.args.op 1 c.in-Ok.count c.collect-collected.ensures.goes_on c.in-Ok.ensures.read
-
-pub helping::help_linked-end_collected-progress-requires-clause-none : goal.helping::help_linked-end_collected-progress-requires-clause-none
-helping::help_linked-end_collected-progress-requires-clause-none g t c = λ _ _.
-    read_goes (whole c.read_count.new.pass) (whole c.collect-collected.new.pass) c.args.op 2 0 c.collect-collected.ensures.goes_on c.in-Ok.ensures.none
+pub helping::help_linked-end_collected-progress-requires-clause-counts : goal.helping::help_linked-end_collected-progress-requires-clause-counts
+helping::help_linked-end_collected-progress-requires-clause-counts g t c = λ _ _.
+    counts_goes (whole c.read_counts.new.pass) (whole c.collect-collected.new.pass) c.args.op c.in-Ok.counts c.collect-collected.ensures.goes_on c.in-Ok.ensures.counts
 
 pub helping::help_linked-returns-clause-goes_on : goal.helping::help_linked-returns-clause-goes_on
 helping::help_linked-returns-clause-goes_on g t c =
-    let r = c.read_count.ensures in let x = whole c.args.pass.now in let u = whole c.read_count.new.pass in let z = whole c.collect-collected.new.pass in let y = whole c.end_collected-progress.new.pass in
+    let r = c.read_counts.ensures in let x = whole c.args.pass.now in let u = whole c.read_counts.new.pass in let z = whole c.collect-collected.new.pass in let y = whole c.end_collected-progress.new.pass in
     goes_then x z y (goes_then x u z (goes_later x u r.later r.learns) c.collect-collected.ensures.goes_on) c.end_collected-progress.ensures.goes_on
 
 pub helping::help_linked-returns-clause-followed : goal.helping::help_linked-returns-clause-followed
 helping::help_linked-returns-clause-followed g t c =
     let k = c.collect-collected in let e = c.end_collected-progress in let z = whole k.new.pass in let y = whole e.new.pass in let many = c.args.links - k.result.links in
     followed_goes z y e.ensures.goes_on e.ensures.pass.0.2 many (view c.args.pass.now)
-    (followed_since (view c.args.pass.now) (view c.read_count.new.pass) c.read_count.ensures.later.adds z many k.ensures.followed)
+    (followed_since (view c.args.pass.now) (view c.read_counts.new.pass) c.read_counts.ensures.later.adds z many k.ensures.followed)
 
 pub helping::help_linked-returns-clause-come : goal.helping::help_linked-returns-clause-come
 helping::help_linked-returns-clause-come g t c =
-    let k = c.collect-collected in let x = whole c.args.pass.now in let u = whole c.read_count.new.pass in let adds : AddsNotes x.view u.view = c.read_count.ensures.later.adds in
+    let k = c.collect-collected in let x = whole c.args.pass.now in let u = whole c.read_counts.new.pass in let adds : AddsNotes x.view u.view = c.read_counts.ensures.later.adds in
     c.end_collected-progress.ensures.come x k.result.links (adds_then x.view u.view (view k.new.pass) adds k.ensures.goes_on.adds)
     (halted_if x u adds (whole k.new.pass) c.args.op k.result.links k.result.halt k.ensures.halted)
 

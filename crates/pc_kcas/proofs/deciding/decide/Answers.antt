@@ -12,7 +12,7 @@ use Rattle.pc_exchange_law.specs.WholePlays.{OwnVerdict, verdict_by}
 use Rattle.pc_protocol.specs.Notes.{verdict}
 use Rattle.pc_rule.specs.Deciding.{MayDecide}
 use Rattle.pc_rule.specs.Passes.{whole, board_size}
-use Rattle.pc_kcas.proofs.Learning.{learnt_decision, decision_told}
+use Rattle.pc_kcas.proofs.Learning.{learnt_decision, decision_told, told_by}
 use Rattle.pc_kcas.proofs.Standing.{stands_seen, not_undecided, settled_by, settles_idle, settles_open, may_decide}
 use Rattle.pc_kcas.proofs.Courses.{course_seen, course_put}
 use Rattle.pc_kcas.proofs.Failing.{failure_seen, failure_put}
@@ -26,14 +26,14 @@ step_14-found-requires-clause-may g c = λ _ _. let o = c.args.op in let at : o.
 
 pub returns-then-found-old-clause-learnt : goal.returns-then-found-old-clause-learnt
 returns-then-found-old-clause-learnt g c = let x = whole c.args.pass.now in let y = whole c.step_14-found.new.pass in let o = c.args.op in
-    let n = verdict (code ((o.seat + 1) - 1) (unpacked c.pack-old.result).number) (verdict_by (unpacked c.pack-new.result).stage) in
-    learnt_decision x y ((o.seat + 1) - 1) (unpacked c.pack-old.result).number _ n (c.step_14-found.ensures.told.hit c.if-found-old.true) refl refl refl
+    let m = told_by (code ((o.seat + 1) - 1) (unpacked c.pack-old.result).number) (verdict_by (unpacked c.pack-new.result).stage) in
+    learnt_decision x y ((o.seat + 1) - 1) (unpacked c.pack-old.result).number _ m (c.step_14-found.ensures.told.hit c.if-found-old.true) refl refl refl
 
 pub returns-then-found-old-clause-settled : goal.returns-then-found-old-clause-settled
 returns-then-found-old-clause-settled g c = let x = whole c.args.pass.now in let y = whole c.step_14-found.new.pass in let o = c.args.op in
     let at : (o.seat + 1) - 1 ≡ o.seat = omega arith in
     let n = verdict (code ((o.seat + 1) - 1) (unpacked c.pack-old.result).number) (verdict_by (unpacked c.pack-new.result).stage) in
-    let told = decision_told x y ((o.seat + 1) - 1) (unpacked c.pack-old.result).number _ n (c.step_14-found.ensures.told.hit c.if-found-old.true) refl in
+    let told = decision_told x y ((o.seat + 1) - 1) (unpacked c.pack-old.result).number _ n _ (c.step_14-found.ensures.told.hit c.if-found-old.true) refl in
     settled_by y o.seat o.number c.args.stage (settles_idle x o.seat o.number c.args.stage c.requires.may) (settles_open x o.seat o.number c.args.stage c.requires.may)
     (rw (sym at, sym (ap (λ (s : Status). s.number) c.pack-old.ensures.back), sym (ap (λ (s : Status). s.stage) c.pack-new.ensures.back)) told)
 
@@ -52,9 +52,10 @@ pub returns-then-found-old-clause-failure : goal.returns-then-found-old-clause-f
 returns-then-found-old-clause-failure g c = let x = whole c.args.pass.now in let y = whole c.step_14-found.new.pass in let o = c.args.op in
     let at : (o.seat + 1) - 1 ≡ o.seat = omega arith in
     let n = verdict (code ((o.seat + 1) - 1) (unpacked c.pack-old.result).number) (verdict_by (unpacked c.pack-new.result).stage) in
+    let m = told_by (code ((o.seat + 1) - 1) (unpacked c.pack-old.result).number) (verdict_by (unpacked c.pack-new.result).stage) in
     let hit = c.step_14-found.ensures.told.hit c.if-found-old.true in
-    let l = learnt_decision x y ((o.seat + 1) - 1) (unpacked c.pack-old.result).number _ n hit refl refl refl in
-    let told = decision_told x y ((o.seat + 1) - 1) (unpacked c.pack-old.result).number _ n hit refl in
+    let l = learnt_decision x y ((o.seat + 1) - 1) (unpacked c.pack-old.result).number _ m hit refl refl refl in
+    let told = decision_told x y ((o.seat + 1) - 1) (unpacked c.pack-old.result).number _ n _ hit refl in
     failure_put x y o.seat o.number c.args.stage c.requires.may l.told
     (rw (sym at, sym (ap (λ (s : Status). s.number) c.pack-old.ensures.back), sym (ap (λ (s : Status). s.stage) c.pack-new.ensures.back)) told)
 

@@ -19,7 +19,7 @@ returns-then-found-old-clause-withdrew g c = let x = whole c.args.pass.now in le
 pub returns-then-found-old-clause-told : goal.returns-then-found-old-clause-told
 returns-then-found-old-clause-told g c = let p = c.args.pass.now in let x = whole p in let y = whole c.step_14_own-found.new.pass in
     subst (λ n. Has y.knows.told (verdict (code x.view.seat n) (aborted withdrawn))) p.one_attempt.number
-    (decision_told x y x.view.seat x.knows.own.number _ (verdict (code x.view.seat x.knows.own.number) (aborted withdrawn)) (c.step_14_own-found.ensures.told.hit c.if-found-old.true) refl)
+    (decision_told x y x.view.seat x.knows.own.number _ (verdict (code x.view.seat x.knows.own.number) (aborted withdrawn)) _ (c.step_14_own-found.ensures.told.hit c.if-found-old.true) refl)
 
 pub returns-clause-settled : goal.returns-clause-settled
 returns-clause-settled g c = let x = whole c.args.pass.now in let y = whole c.step_14_own-found.new.pass in let r = c.step_14_own-found.result in

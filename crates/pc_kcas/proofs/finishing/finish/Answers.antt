@@ -1,17 +1,15 @@
 -- What was held and met, the end, and the list that is dropped.
-use Rattle.std.proofs.Common.{ap, subst, sym}
+use Rattle.std.proofs.Common.{ap, ◌∙◌, subst, sym}
 use Rattle.pc_exchange_law.specs.Wholes.{Whole}
 use Rattle.pc_rule_law.specs.Conditions.{IsFree}
 use Rattle.pc_rule_law.specs.Past.{Has}
 use Rattle.pc_rule_law.specs.Views.{View, clean}
-use Rattle.pc_rule.specs.declared.refs.Ref.{Ref}
 use Rattle.pc_rule.specs.Passes.{whole, view, board_size}
 use Rattle.pc_rule.proofs.Calls.{only_listed, pass_stays}
 use Rattle.pc_kcas.specs.Exchanges.{own_exchange}
-use Rattle.pc_kcas.specs.Stops.{WereStoppedBy}
-use Rattle.pc_kcas.specs.Verdicts.{HasEnded, EndedSo, KeepsAll, KnewBetween, IsBlocked}
+use Rattle.pc_kcas.specs.Verdicts.{EndedSo, KeepsAll, WereBlockedBy, KnewBetween, IsBlocked}
 use Rattle.pc_kcas.proofs.Counted.{same_after}
-use Rattle.pc_kcas.proofs.Finished.{ended_free, kept_ended, so_won, so_lost, so_changed, so_locked, so_blocked, so_numbers, seated_then, why_stopped, stopped_blocked, own_same, clean_listed}
+use Rattle.pc_kcas.proofs.Finished.{ended_free, kept_ended, so_won, so_lost, so_changed, so_locked, so_blocked, so_numbers, seated_then, why_stopped, blocked_ended, clean_listed}
 use Rattle.pc_kcas.proofs.finishing.finish.Goals as goal
 
 pub end_at-verdict-requires-clause-why : goal.end_at-verdict-requires-clause-why
@@ -21,6 +19,10 @@ pub returns-clause-seated : goal.returns-clause-seated
 returns-clause-seated g c = let b = c.args.board.now in let p = c.args.pass.now in let q = c.hold_listed-stopped.new.pass in let r = c.end_at-verdict.new.pass in let s = c.drop_listed.new.self in
     let same = seated_then p q r c.hold_listed-stopped.ensures.pass.0 c.end_at-verdict.ensures.pass.0 in
     seated_then p r s same (only_listed b r s (pass_stays b p r c.requires.pass same) c.drop_listed.ensures.only)
+
+pub returns-clause-path : goal.returns-clause-path
+returns-clause-path g c = let h = c.hold_listed-stopped.ensures.pass.2 in let e = c.end_at-verdict.ensures.pass.2 in let d = c.drop_listed.ensures.only in
+    (ap (λ t. t.me.0.path) d.0 ∙ (e.0 ∙ h.0), d.3 ∙ (e.1 ∙ h.1))
 
 pub returns-clause-free : goal.returns-clause-free
 returns-clause-free g c = let q = c.hold_listed-stopped.new.pass in let r = c.end_at-verdict.new.pass in
@@ -38,42 +40,37 @@ returns-clause-clean g c = λ i x at. let p = c.args.pass.now in let q = c.hold_
     (clean_listed p q r h.pass h.goes_on e.pass e.ended e.clean i x at)
 
 pub returns-clause-won : goal.returns-clause-won
-returns-clause-won g c = let y = whole c.drop_listed.new.self in let by = WereStoppedBy c.hold_listed-stopped.result in
+returns-clause-won g c = let y = whole c.drop_listed.new.self in let q = c.hold_listed-stopped.new.pass in let by = WereBlockedBy c.hold_listed-stopped.result (whole q) (whole c.end_at-verdict.new.pass) (own_exchange q) in
     so_won y y.view.attempt.number by c.end_at-verdict.result
     (subst (λ (w : Whole). EndedSo w w.view.attempt.number c.end_at-verdict.result by) (sym (ap (λ t. t.me.0) c.drop_listed.ensures.only.0)) c.end_at-verdict.ensures.so)
 
 pub returns-clause-lost : goal.returns-clause-lost
-returns-clause-lost g c = let y = whole c.drop_listed.new.self in let by = WereStoppedBy c.hold_listed-stopped.result in
+returns-clause-lost g c = let y = whole c.drop_listed.new.self in let q = c.hold_listed-stopped.new.pass in let by = WereBlockedBy c.hold_listed-stopped.result (whole q) (whole c.end_at-verdict.new.pass) (own_exchange q) in
     so_lost y y.view.attempt.number by c.end_at-verdict.result
     (subst (λ (w : Whole). EndedSo w w.view.attempt.number c.end_at-verdict.result by) (sym (ap (λ t. t.me.0) c.drop_listed.ensures.only.0)) c.end_at-verdict.ensures.so)
 
 pub returns-clause-changed : goal.returns-clause-changed
-returns-clause-changed g c = let y = whole c.drop_listed.new.self in let by = WereStoppedBy c.hold_listed-stopped.result in
+returns-clause-changed g c = let y = whole c.drop_listed.new.self in let q = c.hold_listed-stopped.new.pass in let by = WereBlockedBy c.hold_listed-stopped.result (whole q) (whole c.end_at-verdict.new.pass) (own_exchange q) in
     so_changed y y.view.attempt.number by c.end_at-verdict.result
     (subst (λ (w : Whole). EndedSo w w.view.attempt.number c.end_at-verdict.result by) (sym (ap (λ t. t.me.0) c.drop_listed.ensures.only.0)) c.end_at-verdict.ensures.so)
 
 pub returns-clause-locked : goal.returns-clause-locked
-returns-clause-locked g c = let y = whole c.drop_listed.new.self in let by = WereStoppedBy c.hold_listed-stopped.result in
+returns-clause-locked g c = let y = whole c.drop_listed.new.self in let q = c.hold_listed-stopped.new.pass in let by = WereBlockedBy c.hold_listed-stopped.result (whole q) (whole c.end_at-verdict.new.pass) (own_exchange q) in
     so_locked y y.view.attempt.number by c.end_at-verdict.result
     (subst (λ (w : Whole). EndedSo w w.view.attempt.number c.end_at-verdict.result by) (sym (ap (λ t. t.me.0) c.drop_listed.ensures.only.0)) c.end_at-verdict.ensures.so)
 
 pub returns-clause-numbers : goal.returns-clause-numbers
-returns-clause-numbers g c = let y = whole c.drop_listed.new.self in let by = WereStoppedBy c.hold_listed-stopped.result in
+returns-clause-numbers g c = let y = whole c.drop_listed.new.self in let q = c.hold_listed-stopped.new.pass in let by = WereBlockedBy c.hold_listed-stopped.result (whole q) (whole c.end_at-verdict.new.pass) (own_exchange q) in
     so_numbers y y.view.attempt.number by c.end_at-verdict.result
     (subst (λ (w : Whole). EndedSo w w.view.attempt.number c.end_at-verdict.result by) (sym (ap (λ t. t.me.0) c.drop_listed.ensures.only.0)) c.end_at-verdict.ensures.so)
 
 pub returns-clause-blocked : goal.returns-clause-blocked
 returns-clause-blocked g c = let p = c.args.pass.now in let q = c.hold_listed-stopped.new.pass in let r = c.end_at-verdict.new.pass in let z = (board_size c.args.board.now).seats in
-    let h = c.hold_listed-stopped.ensures in let t = c.hold_listed-stopped.result in
-    so_blocked (whole r) (view r).attempt.number (WereStoppedBy t) c.end_at-verdict.result
+    let h = c.hold_listed-stopped.ensures in let e = c.end_at-verdict.ensures in let t = c.hold_listed-stopped.result in
+    so_blocked (whole r) (view r).attempt.number (WereBlockedBy t (whole q) (whole r) (own_exchange q)) c.end_at-verdict.result
     (λ first second. KnewBetween (whole p) (whole c.drop_listed.new.self) (λ u. IsBlocked z (view p) u (own_exchange p) first second))
-    (λ first second by. (
-      whole q,
-      h.goes_on,
-      subst (HasEnded (whole q)) (sym (ap (λ t. t.me.0) c.drop_listed.ensures.only.0)) c.end_at-verdict.ensures.ended,
-      subst (λ (o : Ref). IsBlocked z (view p) (whole q) o first second) (own_same p q h.pass h.goes_on)
-          (stopped_blocked z p q t h.published h.index h.met h.before first second by),
-    )) c.end_at-verdict.ensures.so
+    (λ first second by. subst (λ (y : Whole). KnewBetween (whole p) y (λ u. IsBlocked z (view p) u (own_exchange p) first second)) (sym (ap (λ t. t.me.0) c.drop_listed.ensures.only.0))
+    (blocked_ended z p q (whole r) t h.pass h.goes_on e.ended h.published h.index h.met h.before first second by)) e.so
 
 pub returns-clause-bounded : goal.returns-clause-bounded
 returns-clause-bounded g c = let q = c.hold_listed-stopped.new.pass in let r = c.end_at-verdict.new.pass in let y = c.drop_listed.new.self in

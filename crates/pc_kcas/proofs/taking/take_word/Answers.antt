@@ -24,16 +24,16 @@ try_again-again-requires-clause-place g c = λ _ _. let e = c.install-answer.ens
 pub returns-in-Some-clause-goes_on : goal.returns-in-Some-clause-goes_on
 returns-in-Some-clause-goes_on g c = let e = c.install-answer.ensures in
     goes_then (whole c.args.pass.now) (whole c.install-answer.new.pass) (whole c.try_again-again.new.pass)
-    (goes_by (whole c.args.pass.now) (whole c.install-answer.new.pass) e.adds e.attempt e.learns) c.try_again-again.ensures.goes_on
+    (goes_by (whole c.args.pass.now) (whole c.install-answer.new.pass) e.adds e.pass.0.1 e.attempt e.learns) c.try_again-again.ensures.goes_on
 
 pub returns-in-None-clause-goes_on : goal.returns-in-None-clause-goes_on
 returns-in-None-clause-goes_on g c = let e = c.install-answer.ensures in
-    goes_by (whole c.args.pass.now) (whole c.install-answer.new.pass) e.adds e.attempt e.learns
+    goes_by (whole c.args.pass.now) (whole c.install-answer.new.pass) e.adds e.pass.0.1 e.attempt e.learns
 
 pub returns-in-Some-clause-fresh : goal.returns-in-Some-clause-fresh
 returns-in-Some-clause-fresh g c = let e = c.install-answer.ensures in let x = whole c.args.pass.now in let y = whole c.install-answer.new.pass in
     if_met (IsNews y c.args.place) (IsNews x c.args.place) c.try_again-again.result
-    (news_goes x y (goes_by x y e.adds e.attempt e.learns) e.pass.0.2 c.args.place) c.try_again-again.ensures.fresh
+    (news_goes x y (goes_by x y e.adds e.pass.0.1 e.attempt e.learns) e.pass.0.2 c.args.place) c.try_again-again.ensures.fresh
 
 pub returns-in-Some-clause-held : goal.returns-in-Some-clause-held
 returns-in-Some-clause-held g c = let op = c.args.op in let at = c.args.place in on_held _ _ c.try_again-again.result

@@ -20,7 +20,7 @@ install-requires-clause-place g c = λ _ _. place_later (view c.args.pass.now) (
 pub returns-clause-goes_on : goal.returns-clause-goes_on
 returns-clause-goes_on g c = goes_then (whole c.args.pass.now) (whole c.complete.new.pass) (whole c.install.new.pass)
     (goes_later (whole c.args.pass.now) (whole c.complete.new.pass) c.complete.ensures.later c.complete.ensures.learns)
-    (goes_by (whole c.complete.new.pass) (whole c.install.new.pass) c.install.ensures.adds c.install.ensures.attempt c.install.ensures.learns)
+    (goes_by (whole c.complete.new.pass) (whole c.install.new.pass) c.install.ensures.adds c.install.ensures.pass.0.1 c.install.ensures.attempt c.install.ensures.learns)
 
 pub returns-clause-gone : goal.returns-clause-gone
 returns-clause-gone g c = c.install.ensures.keeps (removed c.args.first.seat c.args.first.number) c.complete.ensures.removed

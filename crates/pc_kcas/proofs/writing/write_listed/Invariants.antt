@@ -12,7 +12,7 @@ invariant-loop-i g l = record {
   same : IsSamePass l.initial.pass l.pass;
   only : OnlyWrote (view l.initial.pass) (view l.pass);
   beside : OnlyStored (knows l.initial.pass) (knows l.pass);
-  lists : ListsTo (listed l.pass) (word_in (view l.pass).attempt.words) l.i;
+  lists : ListsTo l.mode l.visits (listed l.pass) (word_in (view l.pass).attempt.words) l.i;
 }
 
 abbrev pub decreases-loop-i : goal.decreases-loop-i
