@@ -5,6 +5,7 @@ pub mod FirstTwo
 pub mod Loosely
 pub mod Published
 pub mod Seated
+pub mod Sitting
 pub mod Slices
 pub mod Staying
 mod Opened

@@ -28,6 +28,7 @@ use Rattle.pc_rule.proofs.Starting.{element}
 use Rattle.pc_dcss.specs.Installs.{KeepsAttempt, KeepsNotes}
 use Rattle.pc_kcas.specs.Exchanges.{HasPublished, IsHeldAt}
 use Rattle.pc_kcas.proofs.Attempts.{listed_as}
+use Rattle.pc_kcas.proofs.VisitChecks.{none_checked}
 use Rattle.pc_model.specs.declared.shape.Shape.{Ghosts}
 use Rattle.pc_rule.specs.declared.board.Pass.{Pass}
 use Rattle.pc_rule.specs.Passes.{view, listed, IsSamePass}
@@ -64,9 +65,13 @@ module _ (x : Whole) (places : List Place) (has : HasPublished x.view places) (a
     each = λ i below. let p = element_at places i below in each i p.0 p.1;
   }
 
-  pub may_succeed : (s : ℕ) → s < last_stamp → Has x.knows.told (drew (code x.view.seat x.view.attempt.number) s)
+  pub may_succeed : (s : ℕ) → word_in x.view.attempt.words 2 ≡ 0 → s < last_stamp → Has x.knows.told (drew (code x.view.seat x.view.attempt.number) s)
       → MaySucceed x.view x.knows x.view.seat x.view.attempt.number s
-  may_succeed s lt was = record { drawn = was; low = omega arith; no_visits = own_word x.view.attempt.number 2 0 refl has.describes.visits }
+  may_succeed s none lt was = record {
+    drawn = was;
+    low = omega arith;
+    checked = none_checked x x.view.seat x.view.attempt.number s (own_word x.view.attempt.number 2 0 refl none);
+  }
 
   pub may_take : (i s : ℕ) (p : Place) → get_elem? places i ≡ some p → Has x.knows.told (verdict (code x.view.seat x.view.attempt.number) (committed s))
       → MayTakeReference x.view x.knows x.view.seat x.view.attempt.number p.node p.field p.new

@@ -29,5 +29,5 @@ module _ {H : Type 0} {S : Ghosts H} (b : Board H) (old new : List (Pass H S))
         (pass_stays b p.0 q before.0 s, s.2 ∙ before.1, free i q at);
     last = λ i q at e. let lt = below_length new i q at in let p = element_at old i (omega arith) in
         let l = all.last i p.0 p.1 e in let s = seated_at i p.0 q p.1 at in
-        (s.3 ∙ l.0, s.4 ∙ l.1, subst (λ v. calls_of b.shares.items ≤ vec_capacity v) (sym s.7) l.2);
+        (s.3 ∙ l.0, s.4 ∙ l.1, subst (λ r. calls_of b.shares.items ≤ vec_capacity r.entries) (sym s.7) l.2);
   }

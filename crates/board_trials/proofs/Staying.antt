@@ -5,10 +5,10 @@ use native.Mathlib.Decide.{ℕ_discrete}
 use Rattle.pc_rule_law.specs.Conditions.{IsFree}
 use Rattle.pc_rule_law.specs.Plays.{IsLater}
 use Rattle.pc_rule_law.specs.Past.{Has}
-use Rattle.pc_rule_law.proofs.Lists.{has_later}
+use Rattle.pc_rule_law.proofs.Lists.{has_later, has_right}
 use Rattle.pc_protocol.specs.Histories.{Stage}
 use Rattle.pc_protocol.specs.Notes.{Note, verdict}
-use Rattle.pc_exchange_law.specs.Knowing.{after_decision}
+use Rattle.pc_exchange_law.specs.Knowing.{outdated_by, after_decision}
 use Rattle.pc_rule_law.specs.Views.{removed, decided_below, View}
 use Rattle.pc_exchange_law.specs.WholePlays.{StatusTried, after_decided}
 use Rattle.pc_exchange_law.specs.Passes.{PassKnows}
@@ -36,6 +36,6 @@ pub tried_known : (x : Whole) (p old r q a n : ℕ) (st : Stage) (y : Whole)
 tried_known x p old r q a n st y s = dite (ℕ_discrete r old)
     (λ e. (
       ap (λ (z : Whole). z.knows.own) (s.hit e),
-      λ m h. subst (λ (z : Whole). Has z.knows.told m) (sym (s.hit e)) (has_later (verdict n st) x.knows.told m h),
+      λ m h. subst (λ (z : Whole). Has z.knows.told m) (sym (s.hit e)) (has_right (verdict n st ∷ outdated_by n st) x.knows.told m h),
     ))
     (λ ne. let l = (s.miss ne).2.learns in (l.own, l.told))

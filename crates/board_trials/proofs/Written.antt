@@ -5,10 +5,9 @@ use Rattle.std.specs.List.Sorted.{IsPermutation}
 use Rattle.std.proofs.lemmas.List.Sorted.{All-permutation, IsPermutation-sym}
 use Rattle.pc_model.specs.declared.cell.Field.{Field}
 use Rattle.pc_model.specs.declared.cell.Field.TheVariants.{Version}
-use Rattle.pc_model.specs.Exchanges.{Changed}
+use Rattle.pc_model.specs.Exchanges.{Changed, Visited, Seen}
 use Rattle.pc_history.specs.Footprints.{IsAmong}
 use Rattle.pc_rule_law.specs.Board.{Size}
-use Rattle.pc_rule_law.specs.Openings.{attempt_of}
 use Rattle.pc_rule_law.specs.Past.{Has, change}
 use Rattle.pc_protocol.specs.Histories.{committed}
 use Rattle.pc_protocol.specs.Notes.{published, verdict}
@@ -19,7 +18,7 @@ use Rattle.pc_exchange_law.proofs.ChangeLists.{has_among}
 use Rattle.pc_rule.specs.declared.opening.Place.{Place}
 use Rattle.pc_rule.specs.Starting.{change_of}
 use Rattle.pc_rule.proofs.Starting.{element}
-use Rattle.pc_kcas.specs.Exchanges.{KnowsOldValues}
+use Rattle.pc_kcas.specs.Exchanges.{KnowsOldValues, attempt_with}
 use Rattle.pc_kcas.proofs.Attempts.{listed_as}
 
 -- both words are among the changes of the exchange that lists them in some order
@@ -44,20 +43,20 @@ pub record IsNext (one two first second : Place) : Type 0 where
   pub other : (two.node ≡ one.node) × (second.node ≡ two.node) × (second.field ≡ two.field) × (second.old ≡ two.new)
 
 -- where the first took effect, their old values are known: it wrote them
-module _ (z : Size) (k : PassKnows) (y s c : ℕ) (listed : List Place) (one two first second : Place) (won : Has k.told (verdict y (committed s)))
-    (there : Has k.told (published y (exchange_of (attempt_of (map change_of listed))) c)) (same : IsPermutation (one ∷ two ∷ []) listed) (next : IsNext one two first second) where
+module _ (z : Size) (k : PassKnows) (y s c : ℕ) (visits : List Visited) (reads : List Seen) (listed : List Place) (one two first second : Place) (won : Has k.told (verdict y (committed s)))
+    (there : Has k.told (published y (exchange_of (attempt_with 0 visits reads (map change_of listed))) c)) (same : IsPermutation (one ∷ two ∷ []) listed) (next : IsNext one two first second) where
   wrote_version : (n : ℕ) → n ≡ one.node → IsAmong (change n Version one.old first.old) (map change_of listed)
   unfolding among_one as_change
   wrote_version n at = subst (λ (x : Changed). IsAmong x (map change_of listed)) (as_change one n Version first.old at (sym next.version.0) next.version.3) (among_one one two listed same)
 
   wrote_first : KnowsOld z k first.node first.old first.field first.old
   unfolding wrote_version
-  wrote_first = let w = wrote_version first.node next.version.1 in was_written y s c one.old one.old (exchange_of (attempt_of (map change_of listed))) won there w
+  wrote_first = let w = wrote_version first.node next.version.1 in was_written y s c one.old one.old (exchange_of (attempt_with 0 visits reads (map change_of listed))) won there w
       (subst (λ (f : Field). IsAmong (change first.node f one.old first.old) (map change_of listed)) (sym next.version.2) w)
 
   wrote_second : KnowsOld z k second.node first.old second.field second.old
   unfolding wrote_version among_two as_change
-  wrote_second = was_written y s c one.old two.old (exchange_of (attempt_of (map change_of listed))) won there (wrote_version second.node (next.other.1 ∙ next.other.0))
+  wrote_second = was_written y s c one.old two.old (exchange_of (attempt_with 0 visits reads (map change_of listed))) won there (wrote_version second.node (next.other.1 ∙ next.other.0))
       (subst (λ (x : Changed). IsAmong x (map change_of listed)) (as_change two second.node second.field second.old next.other.1 next.other.2 next.other.3) (among_two one two listed same))
 
   pub next_values : KnowsOldValues z k (first ∷ second ∷ [])

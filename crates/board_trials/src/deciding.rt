@@ -57,7 +57,7 @@ fn drawn(board: &Board<Loose>, pass: &mut Pass<Loose>) -> u64
     step_13(board, pass, op)
 }
 
-/// The own exchange takes effect at this stamp. Says whether it was undecided until then.
+/// The own exchange, which is to visit nothing, takes effect at this stamp. Says whether it was undecided until then.
 fn decided(board: &Board<Loose>, pass: &mut Pass<Loose>, stamp: u64) -> bool
     requires pass { IsPassOf board.now pass.old }
     requires published { IsUncleared pass.old }
@@ -69,6 +69,9 @@ fn decided(board: &Board<Loose>, pass: &mut Pass<Loose>, stamp: u64) -> bool
     ensures free { IsFree (view pass.new) }
     ensures succeeded { result ≡ true → HasSucceeded pass.new }
 {
+    if pass.attempt_word(2) != 0 {
+        return false;
+    }
     let of = pass.number();
     let number = pass.attempts();
     let undecided = pack(Status {

@@ -1,7 +1,7 @@
 //! Operations along a path: worked rows, each compared with what was worked out by hand.
 ghost use Rattle.std.specs.Prelude.{◌≡◌, ◌≢◌, ◌<◌, ◌≤◌, [], true, false, length, vec_len, IsSome};
 ghost use Rattle.pc_rule_law.specs.Conditions.{IsFree, CanWrite};
-ghost use Rattle.pc_rule.specs.Passes.{whole, view, visits, path, listed, board_size, IsPassOf, IsSeatedAs, StaysSeated};
+ghost use Rattle.pc_rule.specs.Passes.{whole, view, visits, path, listed, board_size, IsPassOf, IsSeatedAs, StaysSeated, SitsAs};
 ghost use Rattle.pc_rule.specs.Shares.{AreAll, NoneTried, NoneVisited};
 ghost use Rattle.pc_kcas.specs.Obstacles.{GoesOn};
 ghost use Rattle.board_trials.specs.Paths.{IsAtRest, HasBegun};
@@ -43,7 +43,7 @@ fn walk_read(board: &Board<Loose>, pass: &mut Pass<Loose>) -> Option<(Walk, Resu
     requires pass { IsPassOf board.now pass.old }
     requires begun { HasBegun pass.old }
     requires free { IsFree (view pass.old) }
-    ensures seated { StaysSeated pass.old pass.new }
+    ensures seated { SitsAs pass.old pass.new × IsPassOf board.now pass.new }
     ensures begun { HasBegun pass.new }
     ensures free { IsFree (view pass.new) }
 {
@@ -56,7 +56,7 @@ fn operated(board: &Board<Loose>, pass: &mut Pass<Loose>) -> Option<(Walk, Resul
     requires pass { IsPassOf board.now pass.old }
     requires rest { IsAtRest pass.old }
     requires free { IsFree (view pass.old) }
-    ensures seated { IsSeatedAs pass.old pass.new }
+    ensures seated { SitsAs pass.old pass.new × IsPassOf board.now pass.new }
     ensures rest { IsAtRest pass.new }
     ensures free { IsFree (view pass.new) }
 {
@@ -74,7 +74,7 @@ fn operated_twice(
     requires pass { IsPassOf board.now pass.old }
     requires begun { HasBegun pass.old }
     requires free { IsFree (view pass.old) }
-    ensures seated { IsSeatedAs pass.old pass.new }
+    ensures seated { SitsAs pass.old pass.new × IsPassOf board.now pass.new }
     ensures free { IsFree (view pass.new) }
 {
     end(board, pass);
@@ -135,7 +135,7 @@ fn changed_between(
     requires start { (board_size board.now).starts.version ≡ 0 }
     requires one { HasBegun first.old }
     requires two { CanWrite (view second.old) × (listed second.old ≡ []) }
-    ensures same { IsSeatedAs first.old first.new × IsSeatedAs second.old second.new }
+    ensures same { SitsAs first.old first.new × IsPassOf board.now first.new × IsSeatedAs second.old second.new }
     ensures free { IsFree (view first.new) × IsFree (view second.new) }
 {
     walked(board, first)?;
@@ -186,7 +186,7 @@ fn helped_on_the_way(
     requires start { (board_size board.now).starts.version ≡ 0 }
     requires one { HasBegun first.old }
     requires two { CanWrite (view second.old) × (listed second.old ≡ []) }
-    ensures same { IsSeatedAs first.old first.new × IsSeatedAs second.old second.new }
+    ensures same { SitsAs first.old first.new × IsPassOf board.now first.new × IsSeatedAs second.old second.new }
     ensures free { IsFree (view first.new) × IsFree (view second.new) }
 {
     let half = version();
@@ -240,7 +240,7 @@ fn crossed(
     requires two { IsPassOf board.now second.old × IsFree (view second.old) × CanWrite (view second.old) × (listed second.old ≡ []) }
     requires three { IsPassOf board.now third.old × IsFree (view third.old) × CanWrite (view third.old) × (listed third.old ≡ []) }
     requires start { (board_size board.now).starts.version ≡ 0 }
-    ensures one { IsSeatedAs first.old first.new × IsFree (view first.new) }
+    ensures one { SitsAs first.old first.new × IsPassOf board.now first.new × IsFree (view first.new) }
     ensures two { IsSeatedAs second.old second.new × IsFree (view second.new) }
     ensures three { IsSeatedAs third.old third.new × IsFree (view third.new) }
 {

@@ -62,7 +62,7 @@ module _ {H : Type 0} {S : Ghosts H} {W : Type 0} (f : W → Pass H S) (b : Boar
       order = λ i q at. let w = was_before i q at in let before = all.order i w.0 w.1 in let s = w.2 in
           (pass_stays b w.0 q before.0 s, s.2 ∙ before.1, w.3);
       last = λ i q at e. let w = was_before i q at in let l = all.last i w.0 w.1 e in let s = w.2 in
-          (s.3 ∙ l.0, s.4 ∙ l.1, subst (λ v. calls_of b.shares.items ≤ vec_capacity v) (sym s.7) l.2);
+          (s.3 ∙ l.0, s.4 ∙ l.1, subst (λ r. calls_of b.shares.items ≤ vec_capacity r.entries) (sym s.7) l.2);
     }
 
 -- shares without slots, and one more

@@ -16,10 +16,10 @@ use Rattle.pc_kcas.proofs.Going.{goes_learnt}
 use Rattle.pc_kcas.proofs.Learning.{clock_learnt}
 use Rattle.pc_kcas.proofs.TakeWords.{free_later}
 
-pub clock_goes : (x y : Whole) (r : ℕ) → ClockLoaded x.view r y.view → ClockSeen x.knows r y.knows → GoesOn x y
+pub clock_goes : (x y : Whole) (r : ℕ) → ClockLoaded x.view r y.view → ClockSeen x.path x.knows r y.knows → GoesOn x y
 clock_goes x y r told seen = goes_learnt x y (clock_learnt x y r told seen)
 
-pub clock_free : (x y : Whole) (r : ℕ) → ClockLoaded x.view r y.view → ClockSeen x.knows r y.knows → IsFree x.view → IsFree y.view
+pub clock_free : (x y : Whole) (r : ℕ) → ClockLoaded x.view r y.view → ClockSeen x.path x.knows r y.knows → IsFree x.view → IsFree y.view
 clock_free x y r told seen free = free_later x.view y.view (clock_learnt x y r told seen).view free
 
 -- the pass goes on, with the same view
@@ -30,11 +30,11 @@ pub record Drawn (x y : Whole) : Type 0 where
 pub draw_goes : (x y : Whole) (r : ℕ) → ReadDrawn x r y → Drawn x y
 draw_goes x y r d = ⊎_elim
     (λ early. subst (Drawn x) (sym (d.stamped early)) record {
-      goes = record { adds = ([], refl); attempt = (refl, refl); noted = λ n h. h; told = λ n h. has_later (clock_was (r + 1)) x.knows.told n h; own = refl };
+      goes = record { adds = ([], refl); size = refl; attempt = (refl, refl); noted = λ n h. h; told = λ n h. has_later (clock_was (r + 1)) x.knows.told n h; own = refl };
       same = refl;
     })
     (λ late. subst (Drawn x) (sym (d.refused late)) record {
-      goes = record { adds = ([], refl); attempt = (refl, refl); noted = λ n h. h; told = λ n h. has_later (clock_was r) x.knows.told n h; own = refl };
+      goes = record { adds = ([], refl); size = refl; attempt = (refl, refl); noted = λ n h. h; told = λ n h. has_later (clock_was r) x.knows.told n h; own = refl };
       same = refl;
     })
     (cases_lt r last_stamp)

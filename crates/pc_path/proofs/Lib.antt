@@ -1,5 +1,8 @@
+pub mod Answered
 pub mod Checked
 pub mod Drawing
+pub mod Endings
+pub mod Exchanged
 pub mod Faults
 pub mod Found
 pub mod Leaving

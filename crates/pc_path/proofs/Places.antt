@@ -3,6 +3,8 @@ use Rattle.std.proofs.Common.{◌≡◌, ◌≢◌, ℕ, ◌+◌, ◌<◌, ◌�
 use Rattle.std.proofs.lemmas.Bool.{cases_eq}
 use mathlib.Core.Option.{some}
 use lib.ListN.{get_elem?}
+use Rattle.pc_rule_law.specs.Past.{Has}
+use Rattle.pc_rule_law.proofs.Lists.{below_length}
 use Rattle.pc_rule.specs.declared.visit.Visit.{Visit}
 use Rattle.pc_rule.proofs.Calls.{read_at}
 use Rattle.pc_rule.proofs.Starting.{element}
@@ -34,3 +36,16 @@ first_at visits at place v d here lt same before =
       at = element visits place d lt ∙ ap (λ (m : ℕ). some (record { node = m; version = (get_or visits place d).version })) (same ∙ node);
       before = λ i u below there is. before i u below there (is ∙ sym node);
     }
+
+-- the visit at this place is of the node, and none before it is
+pub first_of : (visits : List Visit) (place n : ℕ) (d : Visit) → place < length visits → (get_or visits place d).node ≡ n → AreOthers visits place n
+    → IsFirstVisit visits n (get_or visits place d).version
+first_of visits place n d lt is before = record {
+  place = place;
+  at = element visits place d lt ∙ ap (λ (m : ℕ). some (record { node = m; version = (get_or visits place d).version })) is;
+  before = before;
+}
+
+-- none of all is
+pub none_of : (visits : List Visit) (place n : ℕ) → length visits ≤ place → AreOthers visits place n → (v : Visit) → Has visits v → v.node ≢ n
+none_of visits place n past before v has = let lt = below_length visits has.0 v has.1 in before has.0 v (omega arith) has.1

@@ -1,12 +1,18 @@
 //! Operations along a path: a pass begins an operation (`beginning`), reads words (`reading`), visits nodes (`visiting`), and
-//! makes one validated read of all that (`checking`, `validating`). In a word in which the reference of another pass stands, at
+//! makes one validated read of all that (`checking`, `validating`), or adds changes (`adding`) and makes one exchange of all
+//! (`exchanging`, `finishing`). A call that it takes along (`carrying`) is recorded with the stamp of that (`concluding`). In a word in which the reference of another pass stands, at
 //! most one install is completed and one exchange is helped (`way`), so no call waits for another pass. Its steps are those of
 //! `pc_rule`, and the completions and helps of `pc_dcss` and `pc_kcas`, so the rule of the board holds between any two of them.
 #![tactic(auto)]
 
+mod adding;
 mod beginning;
+mod carrying;
 mod checking;
+mod concluding;
+mod exchanging;
 mod fault;
+mod finishing;
 mod lost;
 mod met;
 mod moved;
@@ -15,7 +21,10 @@ mod validating;
 mod visiting;
 mod way;
 
+pub use adding::add;
 pub use beginning::{end, start};
+pub use carrying::carry;
+pub use exchanging::{begin_vexec, exec, finish_vexec, vexec};
 pub use fault::{ReadFault, VisitFault};
 pub use lost::Lost;
 pub use moved::Moved;

@@ -1,18 +1,19 @@
 //! The validated read of a path.
-ghost use Rattle.std.specs.Prelude.{◌≡◌, ◌≢◌, ◌<◌, ◌≤◌, ℕ, [], true, length, IfOk, IfErr, OnOk};
+ghost use Rattle.std.specs.Prelude.{◌≡◌, ◌≢◌, ◌<◌, ◌≤◌, ◌++◌, ℕ, [], true, None, length, IfOk, IfErr, OnOk, OnErr};
 ghost use Rattle.pc_rule_law.specs.Conditions.{IsFree};
 ghost use Rattle.pc_rule_law.specs.Past.{Has};
 ghost use Rattle.pc_protocol.specs.Notes.{in_run};
 ghost use Rattle.pc_exchange_law.specs.Knowing.{IsAboveSeen};
 ghost use Rattle.pc_exchange_law.specs.Paths.{Path, read_of, dropped, with_stamp};
 ghost use Rattle.pc_exchange_law.specs.Ties.{last_stamp};
-ghost use Rattle.pc_rule.specs.Passes.{whole, view, knows, visits, path, listed, board_size, IsPassOf, StaysSeated};
+ghost use Rattle.pc_rule.specs.Passes.{whole, view, knows, visits, path, listed, recorded, carried, taken_down, board_size, IsPassOf, StaysSeated, SitsAs};
 ghost use Rattle.pc_kcas.specs.Obstacles.{GoesOn};
 ghost use Rattle.pc_kcas.specs.Takings.{IsAtLastInstall};
 ghost use Rattle.pc_kcas.specs.Verdicts.{IsAtLast};
 ghost use Rattle.pc_path.specs.Losses.{HasChanged, IsBlockedAt, IfChanged, IfLocked, IfBlocked, IfNumbers};
 
 use crate::checking::{check_visit, draw_stamp};
+use crate::concluding::conclude;
 use crate::lost::Lost;
 use pc_model::Shape;
 use pc_rule::{Board, Pass};
@@ -74,7 +75,7 @@ fn validated<H: Shape>(board: &Board<H>, pass: &mut Pass<H>) -> Result<u64, Lost
 ///
 /// The stamp is above each stamp that the pass had seen, and not below what it had found in the clock. Where a visited node has
 /// changed, or references are in the way, the read is lost. Either way the pass has no visits and reads afterwards, and its
-/// operation goes on.
+/// operation goes on. The call that it takes along is recorded where the read took effect, and else dropped.
 /// Source: the validation of PathCAS (Brown, Sigouin and Alistarh 2022), with a stamp from one clock.
 pub fn validate<H: Shape>(board: &Board<H>, pass: &mut Pass<H>) -> Result<u64, Lost>
     requires pass { IsPassOf board.now pass.old }
@@ -82,11 +83,17 @@ pub fn validate<H: Shape>(board: &Board<H>, pass: &mut Pass<H>) -> Result<u64, L
     requires free { IsFree (view pass.old) }
     requires visited { visits pass.old ≢ [] }
     requires no_adds { listed pass.old ≡ [] }
-    ensures seated { StaysSeated pass.old pass.new }
+    ensures seated { SitsAs pass.old pass.new × IsPassOf board.now pass.new }
+    ensures adds { listed pass.new ≡ [] }
     ensures goes_on { GoesOn (whole pass.old) (whole pass.new) }
     ensures free { IsFree (view pass.new) }
     ensures visits { visits pass.new ≡ [] }
     ensures path { path pass.new ≡ dropped (path pass.old) }
+
+    // What is recorded of the call that was taken along.
+    ensures recorded { IfOk result (λ s. recorded pass.new ≡ recorded pass.old ++ taken_down pass.old s) }
+    ensures not_recorded { OnErr result (recorded pass.new ≡ recorded pass.old) }
+    ensures carried { carried pass.new ≡ None }
 
     // The read, and its stamp.
     ensures read { IfOk result (λ s. Has (knows pass.new).told (in_run s (read_of (path pass.old)))) }
@@ -100,6 +107,6 @@ pub fn validate<H: Shape>(board: &Board<H>, pass: &mut Pass<H>) -> Result<u64, L
     ensures numbers { IfErr result (λ e. IfNumbers e (IsAtLast (whole pass.new))) }
 {
     let answer = validated(board, pass);
-    pass.drop_visits();
+    conclude(pass, answer);
     answer
 }

@@ -27,7 +27,7 @@ step_14-requires-clause-may c κs = let p = c.args.pass.now in let of = c.requir
         c.pack-succeeded.ensures.packed,
         subst (λ (s : ℕ). MaySucceed (view p) (knows p) s c.attempts-number.result c.args.stamp) (sym e)
             (subst (λ (a : ℕ). MaySucceed (view p) (knows p) (view p).seat a c.args.stamp) (sym n)
-            (may_succeed (whole p) (listed p) c.requires.published p.one_attempt c.args.stamp c.requires.stamp c.requires.drawn)),
+            (may_succeed (whole p) (listed p) c.requires.published p.one_attempt c.args.stamp (sym c.attempt_word.ensures ∙ c.if-attempt_word-ne0.false) c.requires.stamp c.requires.drawn)),
       ),
     )
 

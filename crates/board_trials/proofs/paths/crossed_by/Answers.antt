@@ -5,6 +5,7 @@ use Rattle.pc_rule.specs.Shares.{AreAll}
 use Rattle.board_trials.proofs.Begun.{begun_first}
 use Rattle.board_trials.proofs.FirstThree.{first_at, second_at, third_at, second_after, third_after, all_set}
 use Rattle.board_trials.proofs.Published.{may_list}
+use Rattle.board_trials.proofs.Sitting.{all_sit}
 use Rattle.board_trials.proofs.paths.crossed_by.Goals as goal
 
 pub crossed-requires-clause-one : goal.crossed-requires-clause-one
@@ -31,6 +32,6 @@ returns c = let s = c.split_at_mut-front in let t = c.split_at_mut-middle in let
     (third_after l f r m k s.ensures.value s.ensures.front_len t.ensures.value t.ensures.front_len c.requires.three p q c.index-back-0.result) b
     (all_but_one (set l 0 p) 1 _ q
     (second_after l f r m k s.ensures.value s.ensures.front_len t.ensures.value t.ensures.front_len c.requires.three p c.index-middle-0.result) b
-    (all_but_one l 0 _ p
+    (all_sit l 0 _ p
     (first_at l f r m k s.ensures.value s.ensures.front_len t.ensures.value t.ensures.front_len c.requires.three c.index-front-0.result) b
-    c.requires.all e.one.0 e.one.1) e.two.0 e.two.1) e.three.0 e.three.1)
+    c.requires.all e.one.0 e.one.1 e.one.2) e.two.0 e.two.1) e.three.0 e.three.1)

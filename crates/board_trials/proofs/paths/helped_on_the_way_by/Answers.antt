@@ -5,6 +5,7 @@ use Rattle.pc_rule.specs.Shares.{AreAll}
 use Rattle.board_trials.proofs.Begun.{begun_first}
 use Rattle.board_trials.proofs.FirstTwo.{first_at, second_at, second_after, both_set}
 use Rattle.board_trials.proofs.Published.{may_list}
+use Rattle.board_trials.proofs.Sitting.{all_sit}
 use Rattle.board_trials.proofs.paths.helped_on_the_way_by.Goals as goal
 
 pub helped_on_the_way-requires-clause-passes : goal.helped_on_the_way-requires-clause-passes
@@ -31,5 +32,5 @@ pub returns : goal.returns
 returns c = let s = c.split_at_mut-front in let l = c.args.passes.now in let b = c.args.board.now in let p = c.helped_on_the_way.new.first in let q = c.helped_on_the_way.new.second in let e = c.helped_on_the_way.ensures in
     subst (λ new. AreAll b new) (both_set l s.result.0.now s.result.1.now s.ensures.value s.ensures.front_len c.requires.two p q)
     (all_but_one (set l 0 p) 1 _ q (second_after l s.result.0.now s.result.1.now s.ensures.value s.ensures.front_len c.requires.two p c.index-back-0.result) b
-    (all_but_one l 0 _ p (first_at l s.result.0.now s.result.1.now s.ensures.value s.ensures.front_len c.requires.two c.index-front-0.result) b c.requires.all e.same.0 e.free.0)
-    e.same.1 e.free.1)
+    (all_sit l 0 _ p (first_at l s.result.0.now s.result.1.now s.ensures.value s.ensures.front_len c.requires.two c.index-front-0.result) b c.requires.all e.same.0 e.same.1 e.free.0)
+    e.same.2 e.free.1)

@@ -1,7 +1,8 @@
 -- The first pass of all makes the call, and the others none.
 use Rattle.std.proofs.Common.{arith}
-use Rattle.pc_rule.proofs.Calls.{pass_at, all_but_one}
+use Rattle.pc_rule.proofs.Calls.{pass_at}
 use Rattle.board_trials.proofs.Begun.{begun_first}
+use Rattle.board_trials.proofs.Sitting.{all_sit}
 use Rattle.board_trials.proofs.paths.operated_by.Goals as goal
 
 pub operated_twice-requires-clause-pass : goal.operated_twice-requires-clause-pass
@@ -18,5 +19,5 @@ operated_twice-requires-clause-begun c = let p = c.index_mut.result.now in let o
 
 pub returns : goal.returns
 returns c = let p = c.index_mut.result.now in let ok = c.args.passes.now.ok.0 in let lt = c.requires.some in
-    all_but_one c.args.passes.now.items 0 p c.operated_twice.new.pass (pass_at c.args.passes.now.items 0 p (omega arith) c.index_mut.ensures.value)
-    c.args.board.now c.requires.all c.operated_twice.ensures.seated c.operated_twice.ensures.free
+    all_sit c.args.passes.now.items 0 p c.operated_twice.new.pass (pass_at c.args.passes.now.items 0 p (omega arith) c.index_mut.ensures.value)
+    c.args.board.now c.requires.all c.operated_twice.ensures.seated.0 c.operated_twice.ensures.seated.1 c.operated_twice.ensures.free

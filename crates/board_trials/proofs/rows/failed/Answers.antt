@@ -4,10 +4,11 @@ use Rattle.pc_rule_law.specs.Past.{Has}
 use Rattle.pc_protocol.specs.Histories.{changed}
 use Rattle.pc_protocol.specs.Notes.{outdated}
 use Rattle.pc_exchange_law.specs.Attempts.{OwnAttempt}
+use Rattle.pc_exchange_law.specs.ExchangeConditions.{was_told}
 use Rattle.pc_exchange_law.specs.Ties.{code}
-use Rattle.pc_rule.specs.Passes.{whole, view, knows, listed, board_size}
+use Rattle.pc_rule.specs.Passes.{whole, view, knows, listed, visits, board_size}
 use Rattle.pc_kcas.proofs.Holding.{published_still, knows_still}
-use Rattle.pc_kcas.proofs.Owning.{own_still}
+use Rattle.pc_kcas.proofs.Owning.{own_still, visits_still}
 use Rattle.board_trials.proofs.OwnSteps.{later_attempt}
 use Rattle.board_trials.proofs.Staying.{free_later, later_tried, tried_known}
 use Rattle.board_trials.proofs.rows.failed.Goals as goal
@@ -23,8 +24,8 @@ step_14-requires-clause-may c κs = let p = c.args.pass.now in let of = c.requir
         changed 1,
         c.pack-changed.ensures.packed,
         (omega arith, omega arith),
-        subst (λ (s : ℕ). Has (knows p).told (outdated (code s c.attempts-number.result) 1)) (sym e)
-            (subst (λ (a : ℕ). Has (knows p).told (outdated (code (view p).seat a) 1)) (sym n) c.requires.outdated),
+        was_told (subst (λ (s : ℕ). Has (knows p).told (outdated (code s c.attempts-number.result) 1)) (sym e)
+            (subst (λ (a : ℕ). Has (knows p).told (outdated (code (view p).seat a) 1)) (sym n) c.requires.outdated)),
       ),
     )
 
@@ -38,6 +39,7 @@ returns-clause-published c = let p = c.args.pass.now in let q = c.step_14.new.pa
     let known = tried_known (whole p) _ _ c.step_14.result _ _ _ _ (whole q) e.told in (
       published_still (view p) (view q) (listed p) (listed q) same e.pass.0.1 is c.requires.published.0,
       own_still (whole p) (whole q) (listed p) (listed q) e.pass.0.2 same.0 (ap (λ (o : OwnAttempt). o.withdrew) known.0) known.1 is c.requires.published.1,
+      visits_still (view p) (view q) (visits p) (visits q) same.0 e.pass.0.1 (ap (λ v. v.items) e.pass.2.1) c.requires.published.2,
     )
 
 pub returns-clause-keeps : goal.returns-clause-keeps

@@ -1,0 +1,52 @@
+-- The exchange is published, and then ended.
+use Rattle.std.proofs.Common.{List, IfErr, ap, ◌∙◌, subst, inl}
+use Rattle.pc_exchange_law.specs.Paths.{dropped}
+use Rattle.pc_rule.specs.declared.visit.Visit.{Visit}
+use Rattle.pc_rule.specs.Passes.{whole, view, knows, path, listed, board_size}
+use Rattle.pc_kcas.specs.Exchanges.{exchange_by}
+use Rattle.pc_path.specs.Exchanges.{IsPast}
+use Rattle.pc_path.specs.Losses.{IfChanged}
+use Rattle.pc_path.proofs.Endings.{sits_then, recorded_ok, recorded_err}
+use Rattle.pc_path.proofs.Exchanged.{kept_then, exchanged_ok, no_effect_err, numbers_then, blocked_then}
+use Rattle.pc_path.proofs.Paths.{path_kept, visits_kept}
+use Rattle.pc_path.proofs.exchanging.exchanged.Goals as goal
+
+pub returns-in-Ok-clause-seated : goal.returns-in-Ok-clause-seated
+returns-in-Ok-clause-seated g c = (sits_then c.args.pass.now c.begun.new.pass c.ended.new.pass c.begun.ensures.seated.0 c.ended.ensures.seated.0, c.ended.ensures.seated.1)
+
+pub returns-in-Ok-clause-kept : goal.returns-in-Ok-clause-kept
+returns-in-Ok-clause-kept g c = kept_then (whole c.args.pass.now) (whole c.begun.new.pass) (whole c.ended.new.pass) c.begun.ensures.kept c.ended.ensures.kept
+
+pub returns-in-Ok-clause-path : goal.returns-in-Ok-clause-path
+returns-in-Ok-clause-path g c = c.ended.ensures.path ∙ ap dropped (path_kept c.args.pass.now c.begun.new.pass c.in-Ok.ensures.same.1)
+
+pub returns-in-Ok-clause-recorded : goal.returns-in-Ok-clause-recorded
+returns-in-Ok-clause-recorded g c = recorded_ok c.args.pass.now c.begun.new.pass c.ended.new.pass c.ended.result c.in-Ok.ensures.same.0 c.ended.ensures.recorded
+
+pub returns-in-Ok-clause-not_recorded : goal.returns-in-Ok-clause-not_recorded
+returns-in-Ok-clause-not_recorded g c = recorded_err c.args.pass.now c.begun.new.pass c.ended.new.pass c.ended.result c.in-Ok.ensures.same.0 c.ended.ensures.not_recorded
+
+pub returns-in-Ok-clause-done : goal.returns-in-Ok-clause-done
+returns-in-Ok-clause-done g c = let p = c.args.pass.now in let q = c.begun.new.pass in
+    exchanged_ok (knows p).told (whole c.ended.new.pass) c.args.mode (path p) (listed p) (listed q) c.ended.result c.in-Ok.ensures.each
+    (c.ended.ensures.done (knows p).told (exchange_by c.args.mode (path p) (listed q)) c.in-Ok.ensures.noted)
+
+pub returns-in-Ok-clause-lost : goal.returns-in-Ok-clause-lost
+returns-in-Ok-clause-lost g c = no_effect_err (view c.args.pass.now) (whole c.ended.new.pass) c.ended.result c.ended.ensures.lost
+
+pub returns-in-Ok-clause-changed : goal.returns-in-Ok-clause-changed
+returns-in-Ok-clause-changed g c = let p = c.args.pass.now in let q = c.begun.new.pass in
+    subst (λ (l : List Visit). IfErr c.ended.result (λ e. IfChanged e (IsPast l (whole c.ended.new.pass)))) (visits_kept p q c.in-Ok.ensures.same.1) c.ended.ensures.changed
+
+pub returns-in-Ok-clause-blocked : goal.returns-in-Ok-clause-blocked
+returns-in-Ok-clause-blocked g c = let p = c.args.pass.now in let q = c.begun.new.pass in
+    blocked_then (board_size c.args.board.now).seats (view p) (view q) (whole c.ended.new.pass) c.ended.result c.begun.ensures.kept.notes c.ended.ensures.blocked
+
+pub returns-in-Ok-clause-numbers : goal.returns-in-Ok-clause-numbers
+returns-in-Ok-clause-numbers g c = numbers_then (view c.args.pass.now) (whole c.ended.new.pass) c.ended.result c.ended.ensures.numbers
+
+pub returns-in-Err-clause-lost : goal.returns-in-Err-clause-lost
+returns-in-Err-clause-lost g c = inl (ap (λ v. v.attempt.number) c.in-Err.ensures.nothing)
+
+pub returns-in-Err-clause-numbers : goal.returns-in-Err-clause-numbers
+returns-in-Err-clause-numbers g c = inl c.in-Err.ensures.refused
