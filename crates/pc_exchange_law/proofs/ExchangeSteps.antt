@@ -23,7 +23,7 @@ use Rattle.pc_rule_law.proofs.Outcomes as Outcomes
 use Rattle.pc_protocol.specs.Histories.{for_exchange, for_read, Cause, withdrawn, ended, changed, locked, Stage, absent, undecided, committed, aborted}
 use Rattle.pc_protocol.specs.Histories.{History, moments, IsPublished, IsDecided, value_by}
 use Rattle.pc_protocol.specs.Notes.{value, by, clock_was, visited, saw, looked, drew, verdict, rival, outdated, IsTrueNote}
-use Rattle.pc_protocol.specs.Seeing.{ChangesVersion, Covers}
+use Rattle.pc_protocol.specs.Seeing.{Visits, ChangesVersion, Covers}
 use Rattle.pc_protocol.specs.Serving.{HasPassedByNotes}
 use Rattle.pc_protocol.specs.Steps.{draw, publish, commit, CanCommit, abort, CanAbort, refer}
 use Rattle.pc_protocol.proofs.Stages.{same_cause, decided_is_published, committed_is_published}
@@ -37,7 +37,7 @@ use Rattle.pc_exchange_law.specs.Paths.{Path, read_of}
 use Rattle.pc_exchange_law.specs.Knowing.{after_own_store, after_publication, after_draw, after_refusal, after_decision}
 use Rattle.pc_exchange_law.specs.Knowing.{after_withdrawal, after_clearing}
 use Rattle.pc_exchange_law.specs.ExchangeConditions.{MayStoreOwn, MayPublish, MayDrawFor, MaySucceed, MayFail, was_told, is_passed}
-use Rattle.pc_exchange_law.specs.ExchangeConditions.{KnowsPassed, is_changed, was_found, was_settled, KnowsChecked, KnowsCovered}
+use Rattle.pc_exchange_law.specs.ExchangeConditions.{KnowsPassed, is_changed, was_found, was_settled, KnowsChecked}
 use Rattle.pc_exchange_law.specs.ExchangeConditions.{MayTakeReference, MayClear}
 use Rattle.pc_exchange_law.specs.Worlds.{World}
 use Rattle.pc_exchange_law.proofs.AttemptNotes.{attempts_are_known}
@@ -187,19 +187,13 @@ module _ (form : Form) (z : Size) (few : z.seats ≤ 32) (id : ℕ) (b : Board) 
       subst (λ (u : Visited). ChangesVersion (exchange_of (t.attempt p a)) u.node u.version ⊎ HasPassedByNotes h s u)
       (some-injective (record { node = one.0; version = one.1 }) y (sym there ∙ has.1)) (passed p a s one.0 one.1 one.3)
 
-  visits_it : (p a i n x : ℕ) → KnowsVisit v.size.slots k.noted v.seat k.own p a i n x → Covers (exchange_of (t.attempt p a)) n x
-  visits_it p a i n x visit = inl (record {
+  visits_it : (p a i n x : ℕ) → KnowsVisit v.size.slots k.noted v.seat k.own p a i n x → Visits (exchange_of (t.attempt p a)) n x
+  visits_it p a i n x visit = record {
     visit = record { node = n; version = x };
     among = has_among (t.attempt p a).visits (record { node = n; version = x }) (i, (visit_is p a i n x visit).1);
     node = refl;
     version = refl;
-  })
-
-  covered : (p a n : ℕ) → KnowsCovered v k p a n → (x : ℕ) × Covers (exchange_of (t.attempt p a)) n x
-  covered p a n known_so = ⊎_elim
-      (λ visit. (visit.1, visits_it p a visit.0 n visit.1 visit.2))
-      (λ entry. (entry.1, inr (entry_changes p a entry.0 n entry.1 entry.2 entry.3)))
-      known_so
+  }
 
   pub success_step : (p s : ℕ) → p < 64 → IsOpen (b.status p).stage → MaySucceed v k p (b.status p).number s
       → let y : ℕ = code p (b.status p).number in let h' = commit h y s in
@@ -269,11 +263,11 @@ module _ (form : Form) (z : Size) (few : z.seats ≤ 32) (id : ℕ) (b : Board) 
       (known.told (outdated (code p (b.status p).number) n) told)
   may_abort p small pending (changed n) (is_passed q e j i x old new st low seen decided entry visit below) =
       let a : ℕ = (b.status p).number in let worth = worth_was q e j n old new st low seen decided entry in
-      may_pass b t h world.tied p a small (refl, pending) world.rule n x (value_by st old new) worth.0 (visits_it p a i n x visit)
+      may_pass b t h world.tied p a small (refl, pending) world.rule n x (value_by st old new) worth.0 (inl (visits_it p a i n x visit))
       worth.1 below
   may_abort p small pending (locked n q) may =
-      let a : ℕ = (b.status p).number in let there = covered p a n may.4 in
-      may_lock b t h world.tied p a small (refl, pending) world.rule n there.0 q may.0 there.1 may.3
+      let a : ℕ = (b.status p).number in let visit = may.4 in
+      may_lock b t h world.tied p a small (refl, pending) world.rule n visit.1 q may.0 (visits_it p a visit.0 n visit.1 visit.2) may.3
       (known.told (drew (code p a) may.0) may.1) (known.told (rival q n may.0) may.2)
 
   pub failure_step : (p : ℕ) (cause : Cause) → p < 64 → IsOpen (b.status p).stage → StageInRange (stage_by cause)

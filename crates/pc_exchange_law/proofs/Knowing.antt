@@ -13,6 +13,7 @@ use Rattle.pc_rule_law.proofs.Stages.{open_or_not}
 use Rattle.pc_protocol.specs.Histories.{Stage, History, IsDecided}
 use Rattle.pc_protocol.specs.Rules.{Rule}
 use Rattle.pc_protocol.specs.Notes.{Note, clock_was, saw, published, verdict, rival, outdated, IsTrueNote}
+use Rattle.pc_protocol.specs.Seeing.{Visits}
 use Rattle.pc_protocol.specs.Telling.{IsNoted}
 use Rattle.pc_protocol.proofs.Loads.{loads_tell}
 use Rattle.pc_protocol.proofs.Stages.{absent_not_decided, decided_not_undecided}
@@ -191,8 +192,8 @@ module _ (slots : ℕ) (b : Board) (t : Past) (w : Scripts) (h : History) (late 
         ((board_tells b t h rule tied).was_outdated (code p s.number) n
         (subst (λ (u : Stage). IsTrueNote h (verdict (code p s.number) u)) is noted))
     causes_true (Locked n q) st is noted = all_one (IsTrueNote h) (rival q n (h.published_at (code p s.number)))
-        ((board_tells b t h rule tied).was_locked (code p s.number) n q
-        (subst (λ (u : Stage). IsTrueNote h (verdict (code p s.number) u)) is noted))
+        ((board_tells b t h rule tied).was_locked p s.number n q small
+        (subst (λ (u : Stage). IsTrueNote h (verdict (code p s.number) u)) is noted)).0
 
     has_outdated : (n : ℕ) → s.stage ≡ ChangedNode n → Has (causes_by s.stage) (outdated (code p s.number) n)
     unfolding causes_by
@@ -217,12 +218,16 @@ module _ (slots : ℕ) (b : Board) (t : Past) (w : Scripts) (h : History) (late 
             decided = λ _ _. (d.0, d.1, has_first (verdict (code p s.number) d.0) (causes ++ k.told));
             outdated = λ n is. has_later (verdict (code p s.number) d.0) (causes ++ k.told) (outdated (code p s.number) n)
                 (has_left causes k.told (outdated (code p s.number) n) (has_outdated n is));
-            locked = λ n q is. let c : ℕ = h.published_at (code p s.number) in (
-              c,
-              has_later (verdict (code p s.number) d.0) (causes ++ k.told) (rival q n c)
-                  (has_left causes k.told (rival q n c) (has_rival n q is)),
-              λ e b' has. sym (known.told (published (code p s.number) e b') has).2,
-            );
+            locked = λ n q is. let c : ℕ = h.published_at (code p s.number) in
+                let cause = (board_tells b t h rule tied).was_locked p s.number n q small (subst (λ (u : Stage). IsTrueNote h (verdict (code p s.number) u))
+                (subst (λ (u : StatusStage). IsStageOf u d.0) is d.1) d.2) in record {
+                  other = cause.1;
+                  clock = c;
+                  rival = has_later (verdict (code p s.number) d.0) (causes ++ k.told) (rival q n c)
+                      (has_left causes k.told (rival q n c) (has_rival n q is));
+                  of = λ e b' has. let at = known.told (published (code p s.number) e b') has in
+                      (sym at.2, (cause.2.0, subst (λ (o : PathExchange). Visits o n cause.2.0) at.1 cause.2.1));
+                };
           },
           more_known more told (all_more (IsTrueAttemptNote b t w) (came_to p s.number) settled came_here
               (all_learnt (IsTrueAttemptNote b t w) settled_by k.noted (λ n has. settled_true busy n (known.noted n has))))

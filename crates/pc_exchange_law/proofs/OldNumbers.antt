@@ -1,18 +1,18 @@
 -- What a pass knows of the old numbers of an attempt's words is so.
-use Rattle.std.proofs.Common.{◌≡◌, ℕ, suc, refl, sym, ◌∙◌, subst}
+use Rattle.std.proofs.Common.{◌≡◌, ◌≤◌, ℕ, suc, refl, sym, ◌∙◌, subst}
 use Rattle.pc_model.specs.declared.cell.Field.{Field}
 use Rattle.pc_model.specs.declared.cell.Field.TheVariants.{Version}
-use Rattle.pc_model.specs.Exchanges.{Changed, Exchange as PathExchange}
+use Rattle.pc_model.specs.Exchanges.{Changed, Visited, Exchange as PathExchange}
 use Rattle.pc_model.specs.Linked.{opening_cells}
 use Rattle.pc_history.specs.Footprints.{IsAmong}
 use Rattle.pc_rule_law.specs.Board.{Size}
 use Rattle.pc_rule_law.specs.Past.{Has, Attempt, change}
 use Rattle.pc_protocol.specs.Histories.{committed, History, moments}
 use Rattle.pc_protocol.specs.Rules.{Rule}
-use Rattle.pc_protocol.specs.Notes.{Note, visited, read_word, published, verdict, IsTrueNote}
+use Rattle.pc_protocol.specs.Notes.{Note, visited, read_word, saw, published, verdict, IsTrueNote}
 use Rattle.pc_protocol.specs.Bases.{HasBasis}
 use Rattle.pc_protocol.proofs.Loads.{loads_tell}
-use Rattle.pc_exchange_law.specs.ExchangeConditions.{KnowsOld, was_read, is_version, was_opened, was_written, KnowsBasis}
+use Rattle.pc_exchange_law.specs.ExchangeConditions.{KnowsOld, was_read, is_version, was_visited, was_opened, was_written, KnowsBasis}
 use Rattle.pc_exchange_law.specs.Passes.{PassKnows}
 use Rattle.pc_exchange_law.specs.Ties.{exchange_of}
 
@@ -28,6 +28,18 @@ module _ (z : Size) (h : History) (k : PassKnows) (rule : Rule h)
           seen.0,
           (
             seen.1,
+            (λ i le version. subst (λ (g : Field). moments h i n g ≡ x) (sym field) (version ∙ sym same)),
+          ),
+        ),
+      )
+  old_is n v f x (was_visited c e u field same at_node at_version among has) =
+      let seen : IsTrueNote h (saw c e) = told (saw c e) has in
+      let high : u.version ≤ moments h c u.node Version = (seen.1.visits u among).1 in (
+        c,
+        (
+          seen.0,
+          (
+            subst (λ (i : ℕ × ℕ). i.1 ≤ moments h c i.0 Version) (λ j. (at_node j, at_version j)) high,
             (λ i le version. subst (λ (g : Field). moments h i n g ≡ x) (sym field) (version ∙ sym same)),
           ),
         ),

@@ -17,7 +17,7 @@ use Rattle.pc_protocol.specs.Histories.{Cause, withdrawn, ended, changed, locked
 use Rattle.pc_protocol.specs.Histories.{IsPublished, IsUndecided, IsUsed}
 use Rattle.pc_protocol.specs.Rules.{Rule}
 use Rattle.pc_protocol.specs.Notes.{visited, drew, rival, outdated, IsTrueNote}
-use Rattle.pc_protocol.specs.Seeing.{ChangesVersion, Covers}
+use Rattle.pc_protocol.specs.Seeing.{Visits, ChangesVersion, Covers}
 use Rattle.pc_protocol.specs.Serving.{HasPassedByNotes}
 use Rattle.pc_protocol.specs.Steps.{slots_with, commit, CanCommit, abort, CanAbort}
 use Rattle.pc_protocol.proofs.Stages.{undecided_is_published}
@@ -168,9 +168,9 @@ module _ (b : Board) (t : Past) (h : History) (tied : IsTied b t h) (p a : ℕ) 
       (subst (λ (e : PathExchange). Covers e n v) (sym is_exchange) covers) seen below
 
   -- another pass was a rival at one of its stamps
-  pub may_lock : Rule h → (n v q s : ℕ) → Covers (exchange_of (t.attempt p a)) n v → q ≢ p → IsTrueNote h (drew (code p a) s)
+  pub may_lock : Rule h → (n v q s : ℕ) → Visits (exchange_of (t.attempt p a)) n v → q ≢ p → IsTrueNote h (drew (code p a) s)
       → IsTrueNote h (rival q n s)
       → CanAbort h (code p a) (locked n q)
   may_lock rule n v q s covers other drawn rivals = (notes_serve h rule).locked_node (code p a) n v q s undecided_there
-      (subst (λ (e : PathExchange). Covers e n v) (sym is_exchange) covers)
+      (subst (λ (e : PathExchange). Visits e n v) (sym is_exchange) covers)
       (λ same. other (same ∙ (tied.owners (code p a) ∙ of_code p a small))) drawn rivals

@@ -9,7 +9,7 @@ use Rattle.pc_history.proofs.Footprints.{same_change}
 use Rattle.pc_rule_law.specs.Board.{Board}
 use Rattle.pc_rule_law.specs.Past.{Has, Past, change}
 use Rattle.pc_rule_law.specs.Stages.{IsUndecided as IsUndecidedAttempt}
-use Rattle.pc_protocol.specs.Histories.{ended, Stage, committed, aborted, History, IsPublished, value_by, IsSpare}
+use Rattle.pc_protocol.specs.Histories.{ended, locked, Stage, committed, aborted, History, IsPublished, value_by, IsSpare}
 use Rattle.pc_protocol.specs.Seeing.{ChangesVersion}
 use Rattle.pc_protocol.specs.Rules.{Refers, Rule}
 use Rattle.pc_protocol.specs.Notes.{clock_was, visited, read_word, verdict, outdated, IsTrueNote}
@@ -20,6 +20,7 @@ use Rattle.pc_protocol.proofs.Stages.{committed_is_published, undecided_is_publi
 use Rattle.pc_exchange_law.specs.Ties.{code, last_stamp, reference_in, IsSeated, IsStageOf, exchange_of, IsTied}
 use Rattle.pc_exchange_law.specs.TieLaws.{BoardTells}
 use Rattle.pc_exchange_law.proofs.ChangeLists.{has_among}
+use Rattle.pc_exchange_law.proofs.Codes.{of_code}
 use Rattle.pc_exchange_law.proofs.Statuses.{busy_is_published, closed_is_decided, same_worth, undecided_in_history, undecided_on_board}
 
 module _ (b : Board) (t : Past) (h : History) (rule : Rule h) (tied : IsTied b t h) where
@@ -131,5 +132,6 @@ module _ (b : Board) (t : Past) (h : History) (rule : Rule h) (tied : IsTied b t
     ran_out = ran_out_told;
     outdates = outdates_told;
     was_outdated = λ x n noted. (loads_tell h rule).outdated_told n x noted.0;
-    was_locked = λ x n q noted. (loads_tell h rule).rival_told n x q noted.0;
+    was_locked = λ p a n q small noted. let cause = rule.caused (code p a) (locked n q) noted.0 in
+        (cause.3, (λ same. cause.2 (same ∙ sym (tied.owners (code p a) ∙ of_code p a small))), (cause.0, cause.1));
   }

@@ -469,7 +469,7 @@ step13 = (exchange_steps_go_on any_form two 0 b10 t8 w8 h10 step10.0 v0 k13 (ome
       (1, refl),
       (0, refl),
       (λ same. let clash : ◌≡◌ {A = ℕ} 1 0 = same in absurd (omega (arith, clash))),
-      inl (
+      (
         0,
         0,
         record {

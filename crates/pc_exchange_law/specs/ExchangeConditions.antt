@@ -31,6 +31,9 @@ pub data KnowsOld (z : Size) (k : PassKnows) (n v : ℕ) (f : Field) (x : ℕ) :
   was_read : (c : ℕ) → Has k.told (read_word n v f x c) → KnowsOld z k n v f x
   -- the word is the version itself, which was seen
   is_version : (c : ℕ) → f ≡ Version → x ≡ v → Has k.told (visited n v c) → KnowsOld z k n v f x
+  -- the same, and the version was seen along a path
+  was_visited : (c : ℕ) (e : Exchange) (u : Visited) → f ≡ Version → x ≡ v → u.node ≡ n → u.version ≡ v → IsAmong u e.visits
+      → Has k.told (saw c e) → KnowsOld z k n v f x
   -- the board opened so
   was_opened : v ≡ opening_cells z.starts.version n Version → x ≡ opening_cells z.starts.version n f
       → KnowsOld z k n v f x
@@ -108,10 +111,9 @@ pub record MaySucceed (v : View) (k : PassKnows) (p a s : ℕ) : Type 0 where
   pub low : s < 2 ^ 34
   pub checked : KnowsChecked v k p a s
 
--- the attempt is known to visit a node, or to change its version
-abbrev pub KnowsCovered : View → PassKnows → ℕ → ℕ → ℕ → Type 0
-KnowsCovered v k p a n = ((i : ℕ) × (x : ℕ) × KnowsVisit v.size.slots k.noted v.seat k.own p a i n x)
-    ⊎ ((i : ℕ) × (old : ℕ) × (new : ℕ) × KnowsEntry k.noted v.seat k.own p a i n Version old new)
+-- the attempt is known to visit a node
+abbrev pub KnowsVisited : View → PassKnows → ℕ → ℕ → ℕ → Type 0
+KnowsVisited v k p a n = (i : ℕ) × (x : ℕ) × KnowsVisit v.size.slots k.noted v.seat k.own p a i n x
 
 -- How a pass knows that an attempt is outdated at a node: it was told so; or the reference to another attempt was seen in the
 -- node's version, which is decided, and by which the version is above one that the attempt visits.
@@ -122,12 +124,12 @@ pub data KnowsOutdated (v : View) (k : PassKnows) (p a n : ℕ) : Type 0 where
       → x < value_by st old new → KnowsOutdated v k p a n
 
 -- that it fails: the clock has come to its last stamp, the attempt is known to be outdated at a node, or another pass was a
--- rival for a node of it at one of its stamps. That a pass withdraws its own attempt is a step apart, which asks for nothing
+-- rival for a node that it visits, at one of its stamps. That a pass withdraws its own attempt is a step apart, which asks for nothing
 abbrev pub MayFail : View → PassKnows → ℕ → ℕ → Cause → Type 0
 MayFail v k p a withdrawn = ⊥
 MayFail v k p a ended = (c : ℕ) × Has k.told (clock_was c) × (last_stamp ≤ c)
 MayFail v k p a (changed n) = KnowsOutdated v k p a n
-MayFail v k p a (locked n q) = (s : ℕ) × Has k.told (drew (code p a) s) × Has k.told (rival q n s) × (q ≢ p) × KnowsCovered v k p a n
+MayFail v k p a (locked n q) = (s : ℕ) × Has k.told (drew (code p a) s) × Has k.told (rival q n s) × (q ≢ p) × KnowsVisited v k p a n
 
 -- a number in place of a reference: by an entry of this word, and how the attempt was decided
 pub record MayTakeReference (v : View) (k : PassKnows) (p a n : ℕ) (f : Field) (x : ℕ) : Type 0 where

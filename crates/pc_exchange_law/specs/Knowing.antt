@@ -1,6 +1,6 @@
 -- What each kind of step of an exchange tells the pass that makes it: what it notes of what it found, and what it has
 -- of its own attempt afterwards.
-use Rattle.std.specs.Prelude.{◌≡◌, ℕ, ◌+◌, ◌<◌, ◌≤◌, ◌⊎◌, Bool, true, false, List, [], ◌∷◌, ◌++◌}
+use Rattle.std.specs.Prelude.{◌≡◌, ◌≢◌, ℕ, ◌+◌, ◌<◌, ◌≤◌, ◌⊎◌, Bool, true, false, List, [], ◌∷◌, ◌++◌}
 use Rattle.pc_model.specs.declared.cell.Field.{Field}
 use Rattle.pc_model.specs.declared.cell.Field.TheVariants.{Version}
 use Rattle.pc_model.specs.Exchanges.{Exchange as PathExchange}
@@ -13,6 +13,7 @@ use Rattle.pc_rule_law.specs.Past.{Has, Past}
 use Rattle.pc_rule_law.specs.Stages.{IsIdle, IsOpen}
 use Rattle.pc_protocol.specs.Histories.{withdrawn, ended, changed, locked, Stage, absent, undecided, committed, aborted, History}
 use Rattle.pc_protocol.specs.Notes.{Note, clock_was, visited, read_word, saw, published, held, drew, verdict, rival, in_run, outdated}
+use Rattle.pc_protocol.specs.Seeing.{Visits}
 use Rattle.pc_protocol.specs.Telling.{IsNoted}
 use Rattle.pc_exchange_law.specs.Ties.{code, last_stamp, IsStageOf}
 use Rattle.pc_exchange_law.specs.Attempts.{Scripts, AttemptNote, came_to, loaded_word, listed_word, calm, calm_but}
@@ -35,6 +36,14 @@ pub record DescriptorLoaded (k : PassKnows) (p place x : ℕ) (k' : PassKnows) :
   pub learns : Learns k k'
   pub loads : (a : ℕ) → Has k.noted (came_to p a) → Has k'.noted (loaded_word p a place x)
 
+-- why the attempt failed that a lock stopped: pass q, another one, is a rival for a node that the attempt visits, by the clock before its
+-- publication
+pub record LockSeen (k : PassKnows) (p a n q : ℕ) (k' : PassKnows) : Type 0 where
+  pub other : q ≢ p
+  pub clock : ℕ
+  pub rival : Has k'.told (rival q n clock)
+  pub of : (e : PathExchange) (d : ℕ) → Has k.told (published (code p a) e d) → (d ≡ clock) × ((v : ℕ) × Visits e n v)
+
 -- a status of pass p: one that isn't idle settles what was loaded of its attempt, and tells how that was decided; and one
 -- that says which node changed tells that the attempt is outdated there
 pub record StatusSeen (k : PassKnows) (p : ℕ) (s : Status) (k' : PassKnows) : Type 0 where
@@ -45,9 +54,8 @@ pub record StatusSeen (k : PassKnows) (p : ℕ) (s : Status) (k' : PassKnows) : 
   pub decided : (IsIdle s.stage → ⊥) → (IsOpen s.stage → ⊥)
       → (st : Stage) × IsStageOf s.stage st × Has k'.told (verdict (code p s.number) st)
   pub outdated : (n : ℕ) → s.stage ≡ ChangedNode n → Has k'.told (outdated (code p s.number) n)
-  -- one that says that the attempt failed since a node is locked tells of the rival, and of the clock before its publication
-  pub locked : (n q : ℕ) → s.stage ≡ Locked n q → (c : ℕ) × Has k'.told (rival q n c)
-      × ((e : PathExchange) (d : ℕ) → Has k.told (published (code p s.number) e d) → d ≡ c)
+  -- one that says that the attempt failed since a node is locked tells of the rival
+  pub locked : (n q : ℕ) → s.stage ≡ Locked n q → LockSeen k p s.number n q k'
 
 -- A word of a node. A reference is held, and its pass has come to that attempt. A plain version is a bound; and
 -- another plain number is what the word has, at each version of the node that was visited. The word is calm of each

@@ -20,7 +20,7 @@ use Rattle.pc_rule_law.specs.Seats.{opening_past}
 use Rattle.pc_protocol.specs.Histories.{Purpose, for_exchange, for_read, Cause, withdrawn, ended, changed, locked, Stage, committed, aborted, used}
 use Rattle.pc_protocol.specs.Histories.{History, moments, IsPublished, IsUndecided, value_by}
 use Rattle.pc_protocol.specs.Rules.{Rule}
-use Rattle.pc_protocol.specs.Seeing.{ChangesVersion, Covers, Saw}
+use Rattle.pc_protocol.specs.Seeing.{Visits, ChangesVersion, Covers, Saw}
 use Rattle.pc_protocol.specs.Serving.{HasPassedByNotes}
 use Rattle.pc_protocol.specs.Notes.{clock_was, visited, read_word, held, drew, verdict, rival, in_run, outdated, IsTrueNote}
 use Rattle.pc_protocol.specs.Bases.{IsBased}
@@ -109,8 +109,8 @@ pub record WordsServe (z : Size) (b : Board) (t : Past) (h : History) : Type 0 w
   -- the attempt is known to be outdated at a node
   pub fail : (p a n : ℕ) → p < 64 → IsUndecidedAttempt b.status p a → IsTrueNote h (outdated (code p a) n)
       → CanAbort h (code p a) (changed n)
-  -- another pass was a rival for a node of it, at one of its stamps
-  pub lock : (p a n v q s : ℕ) → p < 64 → IsUndecidedAttempt b.status p a → Covers (exchange_of (t.attempt p a)) n v → q ≢ p
+  -- another pass was a rival for a node that it visits, at one of its stamps
+  pub lock : (p a n v q s : ℕ) → p < 64 → IsUndecidedAttempt b.status p a → Visits (exchange_of (t.attempt p a)) n v → q ≢ p
       → IsTrueNote h (drew (code p a) s) → IsTrueNote h (rival q n s)
       → CanAbort h (code p a) (locked n q)
 
@@ -159,8 +159,9 @@ pub record BoardTells (b : Board) (t : Past) (h : History) : Type 0 where
       → IsBased h (code p a) → t.plain x.node x.field ≢ x.old
       → IsTrueNote h (outdated (code p a) x.node)
   pub was_outdated : (x n : ℕ) → IsTrueNote h (verdict x (aborted (changed n))) → IsTrueNote h (outdated x n)
-  -- one that failed since a node was locked: the rival, by the clock before its publication
-  pub was_locked : (x n q : ℕ) → IsTrueNote h (verdict x (aborted (locked n q))) → IsTrueNote h (rival q n (h.published_at x))
+  -- one that failed since a node was locked, which it visits: the rival is another pass, by the clock before its publication
+  pub was_locked : (p a n q : ℕ) → p < 64 → IsTrueNote h (verdict (code p a) (aborted (locked n q)))
+      → IsTrueNote h (rival q n (h.published_at (code p a))) × (q ≢ p) × ((v : ℕ) × Visits (h.op (code p a)) n v)
 
 -- ---- the run
 

@@ -8,7 +8,7 @@ use Rattle.pc_model.specs.Exchanges.{Exchange}
 use Rattle.pc_history.specs.Footprints.{IsAmong, HasChange, LeavesWord}
 use Rattle.pc_protocol.specs.Histories.{Cause, withdrawn, ended, changed, locked, Stage, History, moments, cells_now, IsPublished}
 use Rattle.pc_protocol.specs.Histories.{IsUndecided, IsDecided, value_by, IsUsed, Drew}
-use Rattle.pc_protocol.specs.Seeing.{Covers, SawWord, Saw}
+use Rattle.pc_protocol.specs.Seeing.{Visits, Covers, SawWord, Saw}
 use Rattle.pc_protocol.specs.Rules.{IsFrom, Rival, IsCause}
 use Rattle.pc_protocol.specs.Notes.{Found, value, by, IsBoundedBy, IsBelowFound, Looked, Note, clock_was, visited, read_word}
 use Rattle.pc_protocol.specs.Notes.{saw, looked, published, held, drew, verdict, in_use, rival, in_run, cleared, outdated, IsCleared}
@@ -102,7 +102,7 @@ module _ (h h' : History) (grows : Grows h h') where
   )
   cause_stays x (locked n pass) p cause = (
     cause.0,
-    subst (λ (e : Exchange). Covers e n cause.0) (sym (grows.published x p).1) cause.1,
+    subst (λ (e : Exchange). Visits e n cause.0) (sym (grows.published x p).1) cause.1,
     (λ same. cause.2 (same ∙ grows.owner x)),
     subst (λ (c : ℕ). Rival h' pass n c) (sym (grows.times x p)) (rival_stays pass n (h.published_at x) cause.3),
   )

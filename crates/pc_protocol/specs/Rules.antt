@@ -9,7 +9,7 @@ use Rattle.pc_history.specs.Runs.{OnItem, IsRun}
 use Rattle.pc_protocol.specs.Histories.{Purpose, for_exchange, Cause, withdrawn, ended, changed, locked, Stage, committed, aborted}
 use Rattle.pc_protocol.specs.Histories.{Slot, History, moments, cells_now, IsPublished, IsUndecided, IsDecided, value_by}
 use Rattle.pc_protocol.specs.Histories.{IsSpare, IsUsed, Drew, IsForRead}
-use Rattle.pc_protocol.specs.Seeing.{Covers, Saw}
+use Rattle.pc_protocol.specs.Seeing.{Visits, Covers, Saw}
 
 -- what stands in the run at a stamp: a read, which changes nothing, at a stamp for one; or the exchange that took
 -- effect at this stamp, which was drawn for it
@@ -55,12 +55,12 @@ abbrev pub Rival : History → ℕ → ℕ → ℕ → Type 0
 Rival h = IsRival h.owner h.stage h.op h.cleared_at h.clock
 
 -- why an exchange may fail: its owner withdraws; the clock is at its last stamp or above; a node has a greater version than the one that it covers; or for a
--- node of which it covers a version another pass is a rival since before it was published
+-- node that it visits another pass is a rival since before it was published
 abbrev pub IsCause : History → ℕ → Cause → Type 0
 IsCause h x withdrawn = Unit {0}
 IsCause h x ended = h.last ≤ h.clock
 IsCause h x (changed n) = (v : ℕ) × Covers (h.op x) n v × (v < cells_now h n Version)
-IsCause h x (locked n pass) = (v : ℕ) × Covers (h.op x) n v × (pass ≢ h.owner x) × Rival h pass n (h.published_at x)
+IsCause h x (locked n pass) = (v : ℕ) × Visits (h.op x) n v × (pass ≢ h.owner x) × Rival h pass n (h.published_at x)
 
 pub record Rule (h : History) : Type 0 where
   -- the run: nothing stands from the clock on, each exchange stands in the cells at its stamp, and versions rise

@@ -4,7 +4,7 @@ use Rattle.pc_model.specs.declared.cell.Field.TheVariants.{Version}
 use Rattle.pc_model.specs.Exchanges.{Visited, Changed, FreshNode, Exchange}
 use Rattle.pc_history.specs.Footprints.{IsAmong, IsOfWord, IsWellFormed}
 use Rattle.pc_protocol.specs.Histories.{Stage, absent, ended, changed, locked, History, cells_now, IsPublished, IsUndecided, value_by}
-use Rattle.pc_protocol.specs.Seeing.{ChangesVersion, Covers}
+use Rattle.pc_protocol.specs.Seeing.{Visits, ChangesVersion, Covers}
 use Rattle.pc_protocol.specs.Rules.{IsReady}
 use Rattle.pc_protocol.specs.Notes.{Found, value, by, clock_was, visited, saw, looked, held, drew, verdict, rival, outdated, IsTrueNote}
 use Rattle.pc_protocol.specs.Steps.{CanDraw, CanPublish, CanCommit, CanAbort, CanRead}
@@ -45,7 +45,7 @@ pub record NotesServe (h : History) : Type 0 where
   -- the clock has come to its last stamp
   pub out_of_stamps : (x : ℕ) → IsUndecided (h.stage x) → IsTrueNote h (clock_was h.last) → CanAbort h x ended
   -- another pass was a rival at one of its stamps
-  pub locked_node : (x n v pass s : ℕ) → IsUndecided (h.stage x) → Covers (h.op x) n v → pass ≢ h.owner x
+  pub locked_node : (x n v pass s : ℕ) → IsUndecided (h.stage x) → Visits (h.op x) n v → pass ≢ h.owner x
       → IsTrueNote h (drew x s)
       → IsTrueNote h (rival pass n s)
       → CanAbort h x (locked n pass)
