@@ -1,5 +1,5 @@
 -- The words that a pass lists: one more, the same in another order, and after a step.
-use Rattle.std.proofs.Common.{◌≡◌, ◌≢◌, ℕ, zero, suc, ◌<◌, ◌==◌, Bool, false, List, [], ◌∷◌, ◌++◌, length, get_or, sym, subst, arith}
+use Rattle.std.proofs.Common.{◌≡◌, ◌≢◌, ℕ, zero, suc, ◌+◌, ◌<◌, ◌≤◌, ◌==◌, Bool, false, List, [], ◌∷◌, ◌++◌, length, get_or, sym, subst, arith}
 use Rattle.std.proofs.Math.ListN.{length-append}
 use Rattle.std.proofs.lemmas.Bool.Decides.{nat_tests}
 use Rattle.std.proofs.lemmas.List.Elements.{All-nil, All-push}
@@ -62,7 +62,7 @@ none_listed slots places e = subst (AreListed slots) (sym e) record {
   apart = λ i j d lt below. absurd (omega arith);
 }
 
-pub one_listed : (slots : ℕ) (old new : List Place) (p : Place) → new ≡ old ++ p ∷ [] → AreListed slots old → length old < 24 → FitsWord slots p → IsUnlisted old p → AreListed slots new
+pub one_listed : (slots : ℕ) (old new : List Place) (p : Place) → new ≡ old ++ p ∷ [] → AreListed slots old → length old < 25 + slots → FitsWord slots p → IsUnlisted old p → AreListed slots new
 one_listed slots old new p e all lt fits apart = subst (AreListed slots) (sym e) record {
   few = (let n = length-append old (p ∷ []) in omega arith);
   fit = All-push (FitsWord slots) old p all.fit fits;
@@ -79,3 +79,7 @@ listed_again slots old new same all = record {
 -- they are listed still after a step, which keeps the size that the pass knows
 pub still_listed : (v w : View) (places : List Place) → SameSeat v w → AreListed v.size.slots places → AreListed w.size.slots places
 still_listed v w places same all = subst (λ z. AreListed z.slots places) (sym same.4) all
+
+-- there is room for them still
+pub still_ample : (v w : View) (room : ℕ) → SameSeat v w → 25 + v.size.slots ≤ room → 25 + w.size.slots ≤ room
+still_ample v w room same ample = subst (λ z. 25 + z.slots ≤ room) (sym same.4) ample

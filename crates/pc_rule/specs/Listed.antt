@@ -1,5 +1,5 @@
 -- The words that a pass lists for its exchange.
-use Rattle.std.specs.Prelude.{◌≢◌, ℕ, ◌^◌, ◌<◌, ◌≤◌, List, length}
+use Rattle.std.specs.Prelude.{◌≢◌, ℕ, ◌+◌, ◌^◌, ◌<◌, ◌≤◌, List, length}
 use Rattle.std.specs.List.{All, AllPairs}
 use Rattle.pc_model.specs.Cells.{IsNode}
 use Rattle.pc_rule_law.specs.Board.{place_number}
@@ -17,8 +17,8 @@ FitsWord slots p = IsNode slots p.node × (p.old < 2 ^ 62) × (p.new < 2 ^ 62)
 abbrev pub IsUnlisted : List Place → Place → Type 0
 IsUnlisted places p = All (λ q. word_number q ≢ word_number p) places
 
--- at most 24 words of the board, each once
+-- words of the board, each once: at most 24, and the version of each node
 pub record AreListed (slots : ℕ) (places : List Place) : Type 0 where
-  pub few : length places ≤ 24
+  pub few : length places ≤ 25 + slots
   pub fit : All (FitsWord slots) places
   pub apart : AllPairs (λ p q. word_number p ≢ word_number q) places

@@ -68,7 +68,7 @@ pub struct Pass<H: Shape> {
     ghost few: { index < 32 },
     ghost roomy: { share.calls ≤ vec_capacity records.entries },
     ghost carrying: { ForSome records.carried (λ c. length records.entries.items < share.calls) },
-    ghost ample: { 24 ≤ vec_capacity listed },
+    ghost ample: { 25 + seat.me.0.view.size.slots ≤ vec_capacity listed },
     ghost listing: { AreListed seat.me.0.view.size.slots listed.items },
     ghost walking: { HoldsPath seat.me.0 begun visits.items (vec_capacity visits) },
 }

@@ -52,7 +52,7 @@ impl<H: Shape> Board<H> {
     {
         let entries = room_for(alloc, shares, 0)?;
         let stored = words_room(alloc)?;
-        let listed = list_room(alloc)?;
+        let listed = list_room(alloc, opening.slots)?;
         let visits = visit_room(alloc, opening.slots)?;
         let mut kept = Vec::new(alloc);
         kept.extend_from_slice(shares)?;
@@ -107,7 +107,7 @@ impl<H: Shape> Board<H> {
         requires share { get_elem? self.now.shares.items index ≡ some share }
         requires room { (entries.items ≡ []) × (share.calls ≤ vec_capacity entries) }
         requires words { HoldsWords [] words.items }
-        requires list { (places.items ≡ []) × (24 ≤ vec_capacity places) }
+        requires list { (places.items ≡ []) × (25 + (board_size self.now).slots ≤ vec_capacity places) }
         requires visits { (visits.items ≡ []) × ((board_size self.now).slots + 1 ≤ vec_capacity visits) }
         ensures pass { IsPassOf self.now last.new × (whole last.new ≡ whole_maker (whole last.old)) }
         ensures kept { (last.new.records ≡ last.old.records) × (listed last.new ≡ listed last.old) }
@@ -157,7 +157,7 @@ impl<H: Shape> Board<H> {
         while made + 1 < opening.seats {
             let entries = room_for(alloc, shares, made + 1)?;
             let words = words_room(alloc)?;
-            let listed = list_room(alloc)?;
+            let listed = list_room(alloc, opening.slots)?;
             let visits = visit_room(alloc, opening.slots)?;
             let next = board.another(
                 &mut last,

@@ -1,5 +1,5 @@
 //! The words that a pass lists for its exchange. They are kept until they are dropped, also while it is published.
-ghost use Rattle.std.specs.Prelude.{IfOk, ◌≡◌, ◌<◌, ◌≤◌, ◌∷◌, ◌++◌, [], false, length, vec_capacity};
+ghost use Rattle.std.specs.Prelude.{IfOk, ◌≡◌, ◌+◌, ◌<◌, ◌≤◌, ◌∷◌, ◌++◌, [], false, length, vec_capacity};
 ghost use Rattle.std.specs.List.Sorted.{IsPermutation, IsNonDecreasingBy};
 ghost use Rattle.pc_rule.specs.Listed.{word_number, FitsWord, IsUnlisted};
 ghost use Rattle.pc_rule.specs.Passes.{view, listed, OnlyListed};
@@ -10,12 +10,13 @@ use crate::places::field_place;
 use pc_model::Shape;
 use std::alloc::{AllocError, Global};
 
-/// The room for the words of an exchange.
-pub(crate) fn list_room(alloc: Global) -> Result<Vec<Place>, AllocError>
+/// The room for the words of an exchange: for 24, and the version of each node.
+pub(crate) fn list_room(alloc: Global, slots: usize) -> Result<Vec<Place>, AllocError>
+    requires { slots ≤ 61000 }
     ensures none { IfOk result (λ r. r.items ≡ []) }
-    ensures room { IfOk result (λ r. 24 ≤ vec_capacity r) }
+    ensures room { IfOk result (λ r. 25 + slots ≤ vec_capacity r) }
 {
-    let places = Vec::with_capacity(alloc, 24)?;
+    let places = Vec::with_capacity(alloc, 25 + slots)?;
     Ok(places)
 }
 
@@ -36,10 +37,10 @@ impl<H: Shape> Pass<H> {
         self.listed.as_slice()
     }
 
-    /// Lists one more word for the next exchange: at most 24 words, and each once.
+    /// Lists one more word for the next exchange: each once, and at most 25 words more than there are slots.
     pub fn list(&mut self, place: Place)
         requires open { (view self.old).attempt.published ≡ false }
-        requires few { length (listed self.old) < 24 }
+        requires few { length (listed self.old) < 25 + (view self.old).size.slots }
         requires fits { FitsWord (view self.old).size.slots place }
         requires apart { IsUnlisted (listed self.old) place }
         ensures only { OnlyListed self.old self.new }

@@ -1,7 +1,7 @@
 //! What a pass knows of itself.
-ghost use Rattle.std.specs.Prelude.{◌≡◌, ◌+◌, ◌*◌, ◌<◌, ◌≤◌};
+ghost use Rattle.std.specs.Prelude.{◌≡◌, ◌+◌, ◌*◌, ◌<◌, ◌≤◌, length};
 ghost use Rattle.pc_rule_law.specs.Past.{visits_begin};
-ghost use Rattle.pc_rule.specs.Passes.{view, board_size, IsPassOf};
+ghost use Rattle.pc_rule.specs.Passes.{view, listed, board_size, IsPassOf};
 
 use crate::board::{Board, Pass};
 use pc_model::Shape;
@@ -29,6 +29,16 @@ impl<H: Shape> Board<H> {
         ensures small { result ≤ 32 }
     {
         self.seats as u32
+    }
+
+    /// How many words one of its passes lists.
+    pub fn count_listed(&self, pass: &Pass<H>) -> u32
+        requires { IsPassOf self.now pass.now }
+        ensures count { result ≡ length (listed pass.now) }
+        ensures few { result ≤ 25 + (board_size self.now).slots }
+        ensures small { result ≤ 61025 }
+    {
+        pass.listed.len() as u32
     }
 
     /// The place of the node of a visit in a descriptor, by the visit's index. Its version stands at the next place.

@@ -1,5 +1,5 @@
 -- The step's lemma, at the address of the word.
-use Rattle.std.proofs.Common.{List, refl, ap, ◌∙◌}
+use Rattle.std.proofs.Common.{List, refl, ap, ◌∙◌, vec_capacity}
 use Rattle.pc_rule_law.specs.Board.{Size, Place, at_clock, Inside}
 use Rattle.pc_rule_law.specs.Views.{View}
 use Rattle.pc_rule_law.specs.Tables.{size_of}
@@ -10,7 +10,7 @@ use Rattle.pc_exchange_law.proofs.WholeReads.{whole_read_draw}
 use Rattle.pc_rule.specs.declared.visit.Visit.{Visit}
 use Rattle.pc_rule.specs.Walking.{path_with}
 use Rattle.pc_rule.proofs.Attempts.{agree_still}
-use Rattle.pc_rule.proofs.Listing.{still_listed}
+use Rattle.pc_rule.proofs.Listing.{still_listed, still_ample}
 use Rattle.pc_rule.proofs.OwnWords.{begin_still, words_still}
 use Rattle.pc_rule.proofs.Telling.{told_at}
 use Rattle.pc_rule.proofs.Walking.{path_moved, stamp_with, draw_stays}
@@ -41,7 +41,7 @@ invariant_of-pass g c = let x : Whole = c.args.pass.now.seat.me.0 in let v : Vie
       few = c.args.pass.now.few;
       roomy = c.args.pass.now.roomy;
       carrying = c.args.pass.now.carrying;
-      ample = c.args.pass.now.ample;
+      ample = still_ample v y.view (vec_capacity c.args.pass.now.listed) t.1 c.args.pass.now.ample;
       listing = still_listed v y.view c.args.pass.now.listed.items t.1 c.args.pass.now.listing;
       walking = path_moved x y _ _ _ stays.path.begun stays.path.visits t.1.4 c.args.pass.now.walking;
     }

@@ -1,5 +1,5 @@
 -- The step's lemma, at the address of the word.
-use Rattle.std.proofs.Common.{◌-◌, ap, ◌∙◌, arith, rules, refl}
+use Rattle.std.proofs.Common.{◌-◌, ap, ◌∙◌, arith, rules, refl, vec_capacity}
 use Rattle.pc_rule_law.specs.Board.{Size, Place, at_own, own_status, Inside}
 use Rattle.pc_rule_law.specs.Views.{View}
 use Rattle.pc_rule_law.specs.Tables.{size_of}
@@ -8,7 +8,7 @@ use Rattle.pc_exchange_law.specs.WholePlays.{SeesStatus}
 use Rattle.pc_exchange_law.specs.Wholes.{Whole}
 use Rattle.pc_exchange_law.proofs.WholeLooks.{whole_load_status}
 use Rattle.pc_rule.proofs.Attempts.{agree_still}
-use Rattle.pc_rule.proofs.Listing.{still_listed}
+use Rattle.pc_rule.proofs.Listing.{still_listed, still_ample}
 use Rattle.pc_rule.proofs.OwnWords.{begin_still, words_still}
 use Rattle.pc_rule.proofs.Telling.{told_at}
 use Rattle.pc_rule.proofs.Walking.{path_still}
@@ -38,7 +38,7 @@ invariant_of-pass g c = let x : Whole = c.args.pass.now.seat.me.0 in let v : Vie
       few = c.args.pass.now.few;
       roomy = c.args.pass.now.roomy;
       carrying = c.args.pass.now.carrying;
-      ample = c.args.pass.now.ample;
+      ample = still_ample v y.view (vec_capacity c.args.pass.now.listed) t.1 c.args.pass.now.ample;
       listing = still_listed v y.view c.args.pass.now.listed.items t.1 c.args.pass.now.listing;
       walking = path_still x y _ _ _ (told.5) t.1.4 c.args.pass.now.walking;
     }
