@@ -16,7 +16,7 @@ use Rattle.pc_rule_law.specs.Past.{Has}
 use Rattle.pc_rule_law.specs.Plays.{found, IsLater}
 use Rattle.pc_rule_law.specs.Views.{View, OwnAttempt, held, placed}
 use Rattle.pc_rule_law.proofs.Places.{one_word}
-use Rattle.pc_exchange_law.specs.ExchangeConditions.{KnowsOld, was_read, is_version, was_opened, was_written}
+use Rattle.pc_exchange_law.specs.ExchangeConditions.{KnowsOld, was_read, is_version, was_visited, was_opened, was_written}
 use Rattle.pc_exchange_law.specs.Passes.{PassKnows}
 use Rattle.pc_exchange_law.specs.WholePlays.{CellSeen}
 use Rattle.pc_exchange_law.specs.Wholes.{Whole}
@@ -68,6 +68,7 @@ come_found x y n f r c p a e = (
 known_still : (z : Size) (k k' : PassKnows) (n v : ℕ) (f : Field) (x : ℕ) → KeepsTold k k' → KnowsOld z k n v f x → KnowsOld z k' n v f x
 known_still z k k' n v f x l (was_read c h) = was_read c (l _ h)
 known_still z k k' n v f x l (is_version c version same h) = is_version c version same (l _ h)
+known_still z k k' n v f x l (was_visited c e u version same at_node at_version among h) = was_visited c e u version same at_node at_version among (l _ h)
 known_still z k k' n v f x l (was_opened version number) = was_opened version number
 known_still z k k' n v f x l (was_written y s c before old e decided published wrote_version wrote) =
     was_written y s c before old e (l _ decided) (l _ published) wrote_version wrote

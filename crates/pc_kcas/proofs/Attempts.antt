@@ -23,7 +23,7 @@ use Rattle.pc_rule_law.proofs.Lists.{below_length, has_later, none_has}
 use Rattle.pc_protocol.specs.Notes.{Note as ToldNote, clock_was}
 use Rattle.pc_exchange_law.specs.Attempts.{word_in as known_word_in}
 use Rattle.pc_exchange_law.specs.Changes.{RaisesNodes}
-use Rattle.pc_exchange_law.specs.ExchangeConditions.{KnowsOld, was_read, is_version, was_opened, was_written, KnowsBasis, GoesByPath}
+use Rattle.pc_exchange_law.specs.ExchangeConditions.{KnowsOld, KnowsBasis, GoesByPath}
 use Rattle.pc_exchange_law.specs.Knowing.{IsAboveSeen}
 use Rattle.pc_exchange_law.specs.Passes.{PassKnows}
 use Rattle.pc_exchange_law.specs.Ties.{exchange_of}
@@ -40,7 +40,8 @@ use Rattle.pc_rule.specs.Starting.{change_of}
 use Rattle.pc_rule.proofs.Calls.{read_at}
 use Rattle.pc_rule.proofs.Sharing.{from_map}
 use Rattle.pc_dcss.specs.Installs.{KnowsPlace}
-use Rattle.pc_kcas.specs.Exchanges.{ListsTo, RaisesVersions, KnowsOldValues, OnlyPublished, HasPublished, attempt_with}
+use Rattle.pc_kcas.specs.Exchanges.{ListsTo, OnlyPublished, HasPublished, attempt_with}
+use Rattle.pc_kcas.proofs.Locks.{old_still, RaisesOrLocks, AllRaiseOrLock, KnowsItsOld, AllKnown}
 
 pub listed_as : (places : List Place) (i : ℕ) (p : Place) → get_elem? places i ≡ some p → get_elem? (map change_of places) i ≡ some (change_of p)
 listed_as [] i p at = absurd (some-ne-none p (sym at))
@@ -102,44 +103,40 @@ only_published v u t w r words looked wrote told =
     }
 
 -- a place of a list is in the list in another order
-has_in_order : (old new : List Place) → IsPermutation old new → (v : Place) → Has old v → Has new v
+pub has_in_order : (old new : List Place) → IsPermutation old new → (v : Place) → Has old v → Has new v
 has_in_order old new same v h = subst (Has new) (read_at old h.0 v v h.1)
     (All-permutation (Has new) new old (IsPermutation-sym old new same) (λ k d lt. (k, element new k d lt)) h.0 v (below_length old h.0 v h.1))
 
-abbrev RaisesItsNode : List Place → Place → Type 0
-RaisesItsNode places p = (v : Place) × Has places v × (v.node ≡ p.node) × (v.field ≡ Version) × (v.new ≡ v.old + 2)
+-- and back
+has_before : (old new : List Place) → IsPermutation old new → (v : Place) → Has new v → Has old v
+unfolding has_in_order
+has_before old new same v h = has_in_order new old (IsPermutation-sym old new same) v h
 
--- the attempt raises its nodes in each order of its words
-raises_nodes : (m : ℕ) (visits : List Visited) (reads : List Seen) (old new : List Place) → IsPermutation old new → RaisesVersions old
+-- the attempt raises its nodes, or locks them, in each order of its words
+raises_nodes : (m : ℕ) (visits : List Visited) (reads : List Seen) (old new : List Place) → IsPermutation old new → AllRaiseOrLock old
     → RaisesNodes (attempt_with m visits reads (map change_of new))
+unfolding has_before
 raises_nodes m visits reads old new same raises a among = let has = among_has (map change_of new) a among in let p = from_map change_of new has.0 a has.1 in
-    let r : RaisesItsNode old p.0 = subst (RaisesItsNode old) (read_at new has.0 p.0 p.0 p.1)
-    (All-permutation (RaisesItsNode old) old new same raises has.0 p.0 (below_length new has.0 p.0 p.1)) in
-    let v : Place = r.0 in let more : v.new ≡ v.old + 2 = r.4 in let there = has_in_order old new same v r.1 in record {
+    let r : RaisesOrLocks old p.0 = raises p.0 (has_before old new same p.0 (has.0, p.1)) in
+    let v : Place = r.0 in let there = has_in_order old new same v r.1 in let node : p.0.node ≡ a.node = ap (λ (c : Changed). c.node) p.2 in record {
       change = change_of v;
       among = has_among (map change_of new) (change_of v) (there.0, listed_as new there.0 v there.1);
-      is_of = (r.2 ∙ ap (λ (c : Changed). c.node) p.2, r.3);
-      rises = inl (omega arith);
+      is_of = (r.2 ∙ node, r.3);
+      rises = ⊎_elim (λ rises. inl rises) (λ locks. inr (
+        locks.0,
+        λ b other at. let here = among_has (map change_of new) b other in
+            let q = from_map change_of new here.0 b here.1 in
+            sym (ap (λ (c : Changed). c.field) q.2)
+            ∙ locks.1 q.0 (has_before old new same q.0 (here.0, q.1)) (ap (λ (c : Changed). c.node) q.2 ∙ (at ∙ sym node)),
+      )) r.4;
     }
-
--- an old number that was known is known still
-pub old_still : (z : Size) (k k' : PassKnows) (n v : ℕ) (f : Field) (x : ℕ) → ((m : ToldNote) → Has k.told m → Has k'.told m) → KnowsOld z k n v f x
-    → KnowsOld z k' n v f x
-old_still z k k' n v f x more (was_read c h) = was_read c (more _ h)
-old_still z k k' n v f x more (is_version c at is h) = is_version c at is (more _ h)
-old_still z k k' n v f x more (was_opened version is) = was_opened version is
-old_still z k k' n v f x more (was_written y s c before old e decided there one other) = was_written y s c before old e (more _ decided) (more _ there) one other
-
-abbrev KnowsItsOld : Size → PassKnows → List Place → Place → Type 0
-KnowsItsOld z k places p = (v : Place) × Has places v × (v.node ≡ p.node) × (v.field ≡ Version) × KnowsOld z k p.node v.old p.field p.old
 
 -- the old numbers are known in each order of the words
 pub known_basis : (m : ℕ) (visits : List Visited) (reads : List Seen) (z : Size) (k k' : PassKnows) (old new : List Place) → ((m : ToldNote) → Has k.told m → Has k'.told m) → IsPermutation old new
-    → KnowsOldValues z k old → KnowsBasis z k' (attempt_with m visits reads (map change_of new))
-unfolding old_still
+    → AllKnown z k old → KnowsBasis z k' (attempt_with m visits reads (map change_of new))
+unfolding has_before
 known_basis m visits reads z k k' old new more same known a among = let has = among_has (map change_of new) a among in let p = from_map change_of new has.0 a has.1 in
-    let r : KnowsItsOld z k old p.0 = subst (KnowsItsOld z k old) (read_at new has.0 p.0 p.0 p.1)
-    (All-permutation (KnowsItsOld z k old) old new same known has.0 p.0 (below_length new has.0 p.0 p.1)) in
+    let r : KnowsItsOld z k old p.0 = known p.0 (has_before old new same p.0 (has.0, p.1)) in
     let v : Place = r.0 in let there = has_in_order old new same v r.1 in (
       v.old,
       record {
@@ -153,9 +150,9 @@ known_basis m visits reads z k k' old new more same known a among = let has = am
 
 -- the words that were stored may be published: those of a list, in some order
 pub may_publish : (form : Form) (z : Size) (x : Whole) (k : PassKnows) (mode : ℕ) (visits : List Visited) (reads : List Seen) (old new : List Place) (c status : ℕ)
-    → AgreeOnAttempt x → CanWrite x.view → x.view.size ≡ z → x.view.attempt.number + 1 < 2 ^ 28 → AreListed x.view.size.slots new → IsPermutation old new → RaisesVersions old
+    → AgreeOnAttempt x → CanWrite x.view → x.view.size ≡ z → x.view.attempt.number + 1 < 2 ^ 28 → AreListed x.view.size.slots new → IsPermutation old new → AllRaiseOrLock old
     → ((ordered : List Place) → IsPermutation old ordered → (keys : List ℕ) × Fits form x.view.size.slots (exchange_of (attempt_with 0 visits reads (map change_of ordered))) keys)
-    → KnowsOldValues z k old → ((m : ToldNote) → Has k.told m → Has x.knows.told m) → Has x.knows.told (clock_was c) → IsAboveSeen x.knows.told c
+    → AllKnown z k old → ((m : ToldNote) → Has k.told m → Has x.knows.told m) → Has x.knows.told (clock_was c) → IsAboveSeen x.knows.told c
     → (length visits ≤ x.view.size.slots + 1) × ((u : Visited) → Has visits u → IsNode x.view.size.slots u.node × (u.version < 2 ^ 62))
     → Describes x.view.size.slots (attempt_with mode visits reads (map change_of new)) (word_in x.view.attempt.words)
     → GoesByPath x.knows x.path c (attempt_with mode visits reads (map change_of new)) → status ≡ packed (record { number = x.view.attempt.number + 1; stage = Undecided }) → MayPublish form z x status

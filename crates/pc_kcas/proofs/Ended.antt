@@ -1,5 +1,7 @@
 -- What a pass knows of its own exchange as it ends it.
-use Rattle.std.proofs.Common.{◌≡◌, ℕ, ◌+◌, ◌-◌, ◌≤◌, List, map, refl, sym, ap, ap₂, ◌∙◌, subst, inl, inr, ⊎_elim, arith}
+use Rattle.std.proofs.Common.{◌≡◌, ℕ, ◌+◌, ◌-◌, ◌<◌, ◌≤◌, List, [], ◌∷◌, length, map, refl, sym, ap, ap₂, ◌∙◌, subst, inl, inr, ⊎_elim, arith}
+use Rattle.pc_model.specs.Exchanges.{Visited}
+use Rattle.pc_history.specs.Footprints.{IsAmong}
 use Rattle.pc_words.specs.declared.status.Stage.{Stage as StatusStage}
 use Rattle.pc_words.specs.declared.status.Stage.TheVariants.{Idle, Undecided, Succeeded, Withdrawn, Changed, Locked}
 use Rattle.pc_words.specs.declared.status.Status.{Status}
@@ -20,7 +22,7 @@ use Rattle.pc_dcss.proofs.Staying.{adds_then}
 use Rattle.pc_kcas.specs.declared.verdict.Verdict.{Verdict}
 use Rattle.pc_kcas.specs.declared.verdict.Verdict.TheVariants.{Won, Changed as ChangedSo, Locked as LockedSo, Blocked, Numbers}
 use Rattle.pc_kcas.specs.Clearing.{took_effect, says_success, KnowsOutcome, HasCleared}
-use Rattle.pc_kcas.specs.Exchanges.{HasPublished, KnowsOwn, attempt_with}
+use Rattle.pc_kcas.specs.Exchanges.{visit_count, HasPublished, KnowsOwn, attempt_with}
 use Rattle.pc_kcas.specs.Settling.{HasLearnt, HasLearntOrWithdrawn, OwnsPublished, StandsAt, IsSettled, TellsFailure}
 use Rattle.pc_kcas.specs.Verdicts.{KnowsFailed, KnowsRival, KnowsWhy, HasEnded, EndedSo, IsReason, answer_by}
 
@@ -123,7 +125,15 @@ module _ (y z : Whole) (places : List Place) (s : Status) (clock : ℕ) (has : H
       let r = why.locked n q is in let back : q ≡ (q + 1) - 1 = omega arith in (
         subst (λ (by : ℕ). KnowsFailed z z.view.attempt.number (locked n by)) back (failed_by v.0 (locked n q) (subst (λ (st : StatusStage). IsStageOf st v.0) is v.1) v.2),
         omega arith,
-        subst (λ (by : ℕ). KnowsRival z z.view.attempt.number n by) back (r.0, r.1, told_still (λ x. published x r.0 r.1) r.2, ended'.told _ r.3),
+        subst (λ (by : ℕ). KnowsRival z z.view.attempt.number n by) back record {
+          exchange = r.0.exchange;
+          clock = r.0.clock;
+          noted = told_still (λ x. published x r.0.exchange r.0.clock) r.0.noted;
+          visit = r.0.visit;
+          other = (λ same. r.0.other (same ∙ ap (λ (v : View). v.seat) ended'.view));
+          rival = ended'.told _ r.0.rival;
+        },
+        subst (λ (c : ℕ). 0 < c) (sym (ap visit_count ended'.view)) r.1,
       )
 
   pub ended_so : EndedSo z z.view.attempt.number (answer_by s.stage clock) X
@@ -150,10 +160,15 @@ pub own_noted : (x z : Whole) (st : Stage) → HasEnded x z → Has x.knows.told
 own_noted x z st e h = subst (λ (p : ℕ). Has z.knows.told (verdict (code p z.view.attempt.number) st)) (sym (ap (λ (v : View). v.seat) e.view))
     (subst (λ (a : ℕ). Has z.knows.told (verdict (code x.view.seat a) st)) (sym (ap (λ (v : View). v.attempt.number) e.view)) (e.told _ h))
 
+-- a list with an element isn't empty
+some_among : (visits : List Visited) (u : Visited) → IsAmong u visits → 0 < length visits
+some_among [] u among = absurd among
+some_among (v ∷ visits) u among = omega arith
+
 -- a pass knows why its own exchange was decided as a status says, which it found or put
 pub why_ended : (x y : Whole) (places : List Place) (p a : ℕ) (s : Status) → p ≡ x.view.seat → a ≡ x.view.attempt.number → HasPublished x.view places → KnowsOwn x places
     → AgreeOnAttempt x → HasLearnt x y → IsSettled y p a s → TellsFailure x y p s → KnowsWhy y s
-unfolding owns
+unfolding owns some_among
 why_ended x y places p a s at is has own agree l settled fails =
     let v = l.view.same in let at_y : p ≡ y.view.seat = at ∙ sym (ap (λ (u : View). u.seat) v) in let is_y : a ≡ y.view.attempt.number = is ∙ sym (ap (λ (u : View). u.attempt.number) v) in
     let owned : OwnsPublished y.view = subst OwnsPublished (sym v) (owns x.view places has) in
@@ -163,12 +178,17 @@ why_ended x y places p a s at is has own agree l settled fails =
       settled = subst (λ (q : ℕ). IsSettled y q y.view.attempt.number s) at_y (subst (λ (b : ℕ). IsSettled y p b s) is_y settled);
       changed = λ n e. subst (λ (c : ℕ). Has y.knows.told (outdated c n)) codes (fails.changed n e);
       locked = λ n q e. let r = fails.locked n q e in let e' = exchange_of (attempt_with 0 own.visits own.reads (map change_of places)) in
-          let d : own.noted.0 ≡ r.0 = r.2 e' own.noted.0 (subst (λ (c : ℕ). Has x.knows.told (published c e' own.noted.0)) own_codes own.noted.1) in (
-            e',
-            r.0,
-            subst (λ (t : ℕ). Has y.knows.told (published (code y.view.seat y.view.attempt.number) e' t)) d
-                (subst (λ (c : ℕ). Has y.knows.told (published c e' own.noted.0)) (own_codes ∙ codes) (l.told _ own.noted.1)),
-            r.1,
+          let o = r.of e' own.noted.0 (subst (λ (c : ℕ). Has x.knows.told (published c e' own.noted.0)) own_codes own.noted.1) in (
+            record {
+              exchange = e';
+              clock = r.clock;
+              noted = subst (λ (t : ℕ). Has y.knows.told (published (code y.view.seat y.view.attempt.number) e' t)) o.0
+                  (subst (λ (c : ℕ). Has y.knows.told (published c e' own.noted.0)) (own_codes ∙ codes) (l.told _ own.noted.1));
+              visit = o.1;
+              other = (λ same. r.other (same ∙ sym at_y));
+              rival = r.rival;
+            },
+            subst (λ (c : ℕ). 0 < c) (sym (ap visit_count v ∙ own.counted)) (some_among own.visits o.1.1.visit o.1.1.among),
           );
       ended = λ e. subst (λ (c : ℕ). Has y.knows.told (verdict c (aborted ended))) codes
           (fails.ended e at (number ∙ (is ∙ sym agree.number)) own.not_withdrawn);

@@ -38,7 +38,7 @@ failure_put x y p a st may more has = record {
 pub failure_before : (x y z : Whole) (p : ℕ) (s : Status) → HasLearnt x y → TellsFailure y z p s → TellsFailure x z p s
 failure_before x y z p s l f = record {
   changed = f.changed;
-  locked = λ n q is. let r = f.locked n q is in (r.0, r.1, λ e d h. r.2 e d (l.told _ h));
+  locked = λ n q is. let r = f.locked n q is in record { other = r.other; clock = r.clock; rival = r.rival; of = λ e d h. r.of e d (l.told _ h) };
   ended = λ is at number kept. f.ended is (at ∙ sym (ap (λ (v : View). v.seat) l.view.same)) (number ∙ sym (ap (λ (o : OwnAttempt). o.number) l.own))
       (ap (λ (o : OwnAttempt). o.withdrew) l.own ∙ kept);
 }

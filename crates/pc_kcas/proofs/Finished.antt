@@ -23,7 +23,7 @@ use Rattle.pc_kcas.specs.declared.obstacle.Obstacle.{Obstacle}
 use Rattle.pc_kcas.specs.declared.verdict.Verdict.{Verdict}
 use Rattle.pc_kcas.specs.declared.verdict.Verdict.TheVariants.{Won, Changed as ChangedSo, Locked as LockedSo, Blocked, Numbers}
 use Rattle.pc_kcas.specs.Clearing.{HoldsListed, IsCleanAt}
-use Rattle.pc_kcas.specs.Exchanges.{IsPublished, IsHeldAt, own_exchange}
+use Rattle.pc_kcas.specs.Exchanges.{visit_count, IsPublished, IsHeldAt, own_exchange}
 use Rattle.pc_kcas.specs.Obstacles.{GoesOn, IsWordOf, HasFollowed, IsObstacle}
 use Rattle.pc_kcas.specs.Stops.{HasMetObstacle, HasMetAt, KnowsStopAt, AreInTheWay}
 use Rattle.pc_kcas.specs.Takings.{HoldsBelow}
@@ -84,6 +84,13 @@ module _ (y : Whole) (a : ℕ) (X : Ref → Ref → Type 0) where
   so_locked (LockedSo n by) so = (so.1, so.2)
   so_locked (Blocked first second) so = tt
   so_locked (Numbers n) so = tt
+
+  pub so_visits : (r : Verdict) → EndedSo y a r X → IfLocked r (λ n by. 0 < visit_count y.view)
+  so_visits (Won s) so = tt
+  so_visits (ChangedSo n) so = tt
+  so_visits (LockedSo n by) so = so.3
+  so_visits (Blocked first second) so = tt
+  so_visits (Numbers n) so = tt
 
   pub so_blocked : (r : Verdict) (Y : Ref → Ref → Type 0) → ((first second : Ref) → X first second → Y first second) → EndedSo y a r X → IfBlocked r Y
   so_blocked (Won s) Y more so = tt

@@ -9,6 +9,7 @@ pub mod Stopped
 pub mod Blocking
 pub mod Finished
 mod Words
+pub mod Locks
 pub mod Learning
 pub mod Standing
 pub mod Failing

@@ -26,7 +26,7 @@ use Rattle.pc_rule.specs.declared.board.Pass.{Pass}
 use Rattle.pc_rule.specs.declared.opening.Place.{Place}
 use Rattle.pc_rule.specs.declared.visit.Visit.{Visit}
 use Rattle.pc_dcss.specs.Installs.{KeepsAttempt}
-use Rattle.pc_kcas.specs.Exchanges.{KnowsOwn, KnowsExchange, KnowsAbove, VisitsHeld, VisitsTo, IsPublished, attempt_with}
+use Rattle.pc_kcas.specs.Exchanges.{visit_count, KnowsOwn, KnowsExchange, KnowsAbove, VisitsHeld, VisitsTo, IsPublished, attempt_with}
 use Rattle.pc_kcas.specs.Obstacles.{GoesOn}
 use Rattle.pc_kcas.proofs.Holding.{published_still}
 
@@ -75,11 +75,12 @@ own_exchange_noted x y mode visits reads places agree at told so by =
     (told.1, subst (Has y.knows.told) (ap₂ (λ (n : ℕ) (e : Exchange). published n e told.1) number same) there, told.6)
 
 pub own_published : (x y : Whole) (visits : List Visited) (reads : List Seen) (places : List Place) → KnowsPublished x y.knows
-    → KnowsExchange y (exchange_of (attempt_with 0 visits reads (map change_of places))) → KnowsOwn y places
-own_published x y visits reads places told noted = record {
+    → visit_count y.view ≡ length visits → KnowsExchange y (exchange_of (attempt_with 0 visits reads (map change_of places))) → KnowsOwn y places
+own_published x y visits reads places told counted noted = record {
   not_withdrawn = ap (λ (k : PassKnows). k.own.withdrew) told.4;
   visits = visits;
   reads = reads;
+  counted = counted;
   noted = noted;
 }
 
@@ -109,6 +110,7 @@ own_still x y old new seat attempt withdrew more is own =
       not_withdrawn = withdrew ∙ own.not_withdrawn;
       visits = own.visits;
       reads = own.reads;
+      counted = ap (λ (a : OwnAttempt). word_in a.words 2) attempt ∙ own.counted;
       noted = (
         own.noted.0,
         subst (λ (l : List Place). Has y.knows.told (published (code y.view.seat y.view.attempt.number) (exchange_of (attempt_with 0 own.visits own.reads (map change_of l))) own.noted.0)) (sym is)

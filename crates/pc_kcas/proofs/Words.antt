@@ -148,7 +148,7 @@ unfolding below_stored
 below_written slots o f g i v same e k lt = ap (λ (w : ℕ → ℕ). w k) e ∙ (below_stored slots f i v k lt ∙ same k lt)
 
 -- what was listed is listed still
-pub lists_below : (m n slots : ℕ) (old new : List Place) (f g : ℕ → ℕ) → new ≡ old → length old ≤ 24 → SameBelow slots f g → ListsTo m n old f (length old)
+pub lists_below : (m n slots : ℕ) (old new : List Place) (f g : ℕ → ℕ) → new ≡ old → length old ≤ 25 + slots → SameBelow slots f g → ListsTo m n old f (length old)
     → ListsTo m n new g (length new)
 lists_below m n slots old new f g is few same so = subst (λ (l : List Place). ListsTo m n l g (length l)) (sym is) record {
   mode = same 0 (omega arith) ∙ so.mode;

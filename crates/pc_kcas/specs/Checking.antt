@@ -8,7 +8,7 @@ use Rattle.pc_rule_law.specs.Plays.{IsNotedSince}
 use Rattle.pc_rule_law.specs.Views.{held, placed, removed}
 use Rattle.pc_protocol.specs.Notes.{drew, rival, outdated}
 use Rattle.pc_exchange_law.specs.Attempts.{KnowsWord, KnowsEntry, KnowsVisit}
-use Rattle.pc_exchange_law.specs.ExchangeConditions.{KnowsPassed, KnowsCovered}
+use Rattle.pc_exchange_law.specs.ExchangeConditions.{KnowsPassed, KnowsVisited}
 use Rattle.pc_exchange_law.specs.Ties.{code}
 use Rattle.pc_exchange_law.specs.Wholes.{Whole}
 use Rattle.pc_rule.specs.declared.refs.Ref.{Ref}
@@ -92,14 +92,14 @@ abbrev pub HasFailed : Whole → Whole → Ref → ℕ → Failed → Type 0
 HasFailed x y op s (IsOverBy status) = IsOver op status × IsPastDecision y op status × AreCleanWhereMet x.view y.view op
 HasFailed x y op s (HasChanged n) = IsNode y.view.size.slots n × Has y.knows.told (outdated (code op.seat op.number) n)
 HasFailed x y op s (IsLocked n by) = IsNode y.view.size.slots n × (by < 32) × (by ≢ op.seat) × Has y.knows.told (rival by n s)
-    × KnowsCovered y.view y.knows op.seat op.number n
+    × KnowsVisited y.view y.knows op.seat op.number n
 HasFailed x y op s (IsStuckSo how) = (left : ℕ) → IsStuck x.view y left how × IsApartFrom op how
 
 -- what keeps the pass's own exchange from taking effect at a stamp, by what was noted since
 abbrev pub IsBarred : Whole → Whole → Ref → ℕ → Barred → Type 0
 IsBarred x y op s (IsBarredByChange n) = IsNode y.view.size.slots n × Has y.knows.told (outdated (code op.seat op.number) n)
 IsBarred x y op s (IsBarredByLock n by) = IsNode y.view.size.slots n × (by < 32) × (by ≢ op.seat) × Has y.knows.told (rival by n s)
-    × KnowsCovered y.view y.knows op.seat op.number n
+    × KnowsVisited y.view y.knows op.seat op.number n
 IsBarred x y op s (IsBarredByTwo how) = IsStuckAtVisit x y op how
 
 -- what came of the decision since

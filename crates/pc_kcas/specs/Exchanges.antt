@@ -12,25 +12,26 @@ use Rattle.pc_model.specs.Forms.{Form, Fits}
 use Rattle.pc_exchange_law.specs.ExchangeConditions.{KnowsOld}
 use Rattle.pc_exchange_law.specs.Knowing.{IsAboveSeen}
 use Rattle.pc_exchange_law.specs.Passes.{PassKnows}
-use Rattle.pc_exchange_law.specs.Paths.{Path}
+use Rattle.pc_exchange_law.specs.Paths.{Path, read_of}
 use Rattle.pc_exchange_law.specs.Ties.{code, exchange_of}
 use Rattle.pc_exchange_law.specs.Wholes.{Whole}
-use Rattle.pc_protocol.specs.Notes.{Note, published}
+use Rattle.pc_protocol.specs.Notes.{Note, clock_was, saw, published}
 use Rattle.pc_rule_law.specs.Board.{Size}
 use Rattle.pc_rule_law.specs.Openings.{attempt_of}
 use Rattle.pc_rule_law.specs.Past.{Has, Attempt, Describes, visits_begin}
 use Rattle.pc_rule_law.specs.Plays.{AddsNotes, IsNotedSince}
-use Rattle.pc_rule_law.specs.Views.{View, clock_at, held, word_in}
+use Rattle.pc_rule_law.specs.Views.{View, clock_at, held, word_in, with_notes}
 use Rattle.pc_rule.specs.declared.board.Pass.{Pass}
 use Rattle.pc_rule.specs.declared.opening.Place.{Place}
 use Rattle.pc_rule.specs.declared.refs.Ref.{Ref}
 use Rattle.pc_rule.specs.declared.refs.RefKind.TheVariants.{Exchange as AnExchange}
 use Rattle.pc_rule.specs.Listed.{word_number}
-use Rattle.pc_rule.specs.Passes.{whole, view, listed, visits as held_visits}
+use Rattle.pc_rule.specs.Passes.{whole, view, listed, path, visits as held_visits}
 use Rattle.pc_rule.specs.declared.visit.Visit.{Visit}
 use Rattle.pc_rule.specs.Starting.{change_of}
 use Rattle.pc_kcas.specs.declared.mode.Mode.{Mode}
 use Rattle.pc_kcas.specs.declared.mode.Mode.TheVariants.{Words, Path as OfPath, LockedPath as OfLockedPath}
+use Rattle.pc_kcas.specs.Locks.{words_by}
 use Rattle.pc_dcss.specs.declared.installed.Installed.{Installed}
 use Rattle.pc_dcss.specs.Installs.{KnowsPlace, IsDecidedSince, IsDifferent, IsMet, HasNoNumber, OnHeld, OnDecided, IfDiffers, IfMet, IfNumbers}
 
@@ -55,10 +56,12 @@ FitsInEachOrder form slots places = (ordered : List Place) → IsPermutation pla
 abbrev pub attempt_with : ℕ → List Visited → List Seen → List Changed → Attempt
 attempt_with mode visits reads changes = record { mode = mode; changes = changes; visits = visits; reads = reads }
 
--- the mode word of an attempt with these visits
-abbrev pub mode_word : List Visited → ℕ
-mode_word [] = 0
-mode_word (v ∷ visits) = 1
+-- the mode word of an attempt of this mode, along a path with these visits: that of one along no visits is that of words alone
+abbrev pub mode_word : Mode → List Visited → ℕ
+mode_word mode [] = 0
+mode_word Words (v ∷ visits) = 0
+mode_word OfPath (v ∷ visits) = 1
+mode_word OfLockedPath (v ∷ visits) = 2
 
 -- what an exchange of this mode takes of a path: nothing, or all that was visited and read; one whose path is locked has its visits among
 -- its words
@@ -76,16 +79,10 @@ reads_by OfLockedPath p = p.reads
 abbrev pub exchange_by : Mode → Path → List Place → Exchange
 exchange_by mode p places = exchange_of (attempt_with 0 (visits_by mode p) (reads_by mode p) (map change_of places))
 
--- in each order of these words it leaves sound cells, and some keys are charged
+-- in each order of its words, for which these are listed, it leaves sound cells, and some keys are charged
 abbrev pub FitsByMode : Form → ℕ → Mode → Path → List Place → Type 0
-FitsByMode form slots mode p places = (ordered : List Place) → IsPermutation places ordered
+FitsByMode form slots mode p places = (ordered : List Place) → IsPermutation (words_by mode p places) ordered
     → (keys : List ℕ) × Fits form slots (exchange_by mode p ordered) keys
-
--- the visits of a path aren't locked by this mode
-abbrev pub IsUnlocked : Mode → Type 0
-IsUnlocked Words = Unit {0}
-IsUnlocked OfPath = Unit {0}
-IsUnlocked OfLockedPath = ⊥
 
 -- the last number of an attempt
 abbrev pub last_attempt : ℕ
@@ -129,6 +126,13 @@ with_change words i p = with_word (with_word (with_word words (3 + 3 * i) (word_
 abbrev pub with_visit_words : ℕ → (ℕ → ℕ) → ℕ → Visit → ℕ → ℕ
 with_visit_words slots words i v = with_word (with_word words (visits_begin slots + 2 * i) v.node) (visits_begin slots + 2 * i + 1) v.version
 
+-- the pass loaded the clock, which is above each stamp that it has seen, and stored words of its descriptor, and is otherwise as it was
+pub record OnlyPrepared (x y : Whole) (c : ℕ) : Type 0 where
+  pub view : y.view ≡ record (with_notes x.view (clock_at c ∷ [])) { attempt = record x.view.attempt { words = y.view.attempt.words } }
+  pub told : y.knows.told ≡ clock_was c ∷ saw c (read_of x.path) ∷ x.knows.told
+  pub noted : y.knows.noted ≡ x.knows.noted
+  pub above : IsAboveSeen y.knows.told c
+
 -- the pass has one attempt more, which is published, and loaded the clock, and is otherwise as it was
 pub record OnlyPublished (v w : View) : Type 0 where
   pub same : w ≡ record v { attempt = w.attempt; notes = w.notes }
@@ -148,11 +152,16 @@ pub record HasPublished (v : View) (places : List Place) : Type 0 where
   pub number : v.attempt.number < 2 ^ 28
   pub describes : Describes v.size.slots (attempt_with mode visits reads (map change_of places)) (word_in v.attempt.words)
 
+-- how many nodes the last attempt visits, by its descriptor
+abbrev pub visit_count : View → ℕ
+visit_count v = word_in v.attempt.words 2
+
 -- the pass didn't withdraw its last attempt of its own accord, and has noted that it is the exchange of these changes
 pub record KnowsOwn (x : Whole) (places : List Place) : Type 0 where
   pub not_withdrawn : x.knows.own.withdrew ≡ false
   pub visits : List Visited
   pub reads : List Seen
+  pub counted : visit_count x.view ≡ length visits
   pub noted : (c : ℕ) × Has x.knows.told (published (code x.view.seat x.view.attempt.number) (exchange_of (attempt_with 0 visits reads (map change_of places))) c)
 
 -- the pass has noted that its last attempt is this exchange
@@ -169,6 +178,11 @@ pub record VisitsHeld (v : View) (kept : List Visit) : Type 0 where
   pub each : VisitsTo v.size.slots kept (word_in v.attempt.words) (word_in v.attempt.words 2)
 
 module _ {H : Type 0} {S : Ghosts H} where
+  -- the words of the descriptor are those of the exchange of what is listed, in this mode
+  abbrev pub IsDescribed : Mode → Pass H S → Type 0
+  IsDescribed mode p = Describes (view p).size.slots
+      (attempt_with (mode_word mode (path p).visits) (visits_by mode (path p)) (reads_by mode (path p)) (map change_of (listed p))) (word_in (view p).attempt.words)
+
   -- the exchange of the pass's last attempt
   abbrev pub own_exchange : Pass H S → Ref
   own_exchange p = record { kind = AnExchange; seat = (view p).seat; number = (view p).attempt.number }

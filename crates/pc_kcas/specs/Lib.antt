@@ -3,6 +3,7 @@ pub mod Settling
 pub mod Readings
 pub mod Clearing
 pub mod Takings
+pub mod Locks
 pub mod Obstacles
 pub mod Helping
 pub mod Concluding

@@ -14,6 +14,7 @@ use Rattle.pc_protocol.specs.Notes.{Note, clock_was, published, verdict, rival, 
 use Rattle.pc_exchange_law.specs.Ties.{code, last_stamp, IsStageOf}
 use Rattle.pc_exchange_law.specs.Attempts.{AttemptNote, KnowsWord, KnowsPlaces}
 use Rattle.pc_exchange_law.specs.ExchangeConditions.{MaySucceed}
+use Rattle.pc_exchange_law.specs.Knowing.{LockSeen}
 use Rattle.pc_exchange_law.specs.Passes.{PassKnows}
 use Rattle.pc_exchange_law.specs.Wholes.{Whole}
 use Rattle.pc_kcas.specs.declared.drawn.Drawn.{Drawn}
@@ -57,13 +58,12 @@ pub record IsSettled (y : Whole) (p a : ℕ) (s : Status) : Type 0 where
   pub stands : StandsAt y p a s
   pub over : s.number ≡ a → IsOpen s.stage → ⊥
 
--- What a status tells of the failure of the attempt of pass p: that it is outdated at the node that changed; of the rival, by the
--- clock before the attempt's publication, where that was noted; and of the own attempt, where the pass didn't withdraw it of its
+-- What a status tells of the failure of the attempt of pass p: that it is outdated at the node that changed; of the rival for a node that
+-- the attempt visits, by the clock before the attempt's publication, where that was noted; and of the own attempt, where the pass didn't withdraw it of its
 -- own accord, that the clock has come to its end.
 pub record TellsFailure (x y : Whole) (p : ℕ) (s : Status) : Type 0 where
   pub changed : (n : ℕ) → s.stage ≡ ChangedNode n → Has y.knows.told (outdated (code p s.number) n)
-  pub locked : (n q : ℕ) → s.stage ≡ Locked n q → (c : ℕ) × Has y.knows.told (rival q n c)
-      × ((e : Exchange) (d : ℕ) → Has x.knows.told (published (code p s.number) e d) → d ≡ c)
+  pub locked : (n q : ℕ) → s.stage ≡ Locked n q → LockSeen x.knows p s.number n q y.knows
   pub ended : s.stage ≡ Withdrawn → p ≡ x.view.seat → s.number ≡ x.knows.own.number → x.knows.own.withdrew ≡ false
       → Has y.knows.told (verdict (code p s.number) (aborted ended))
 

@@ -1,5 +1,5 @@
 -- What clauses say of the end of an exchange.
-use Rattle.std.specs.Prelude.{◌≡◌, ◌≢◌, ◌⊎◌, ℕ, ◌+◌, ◌-◌, ◌≤◌, Option, Some, None}
+use Rattle.std.specs.Prelude.{◌≡◌, ◌≢◌, ◌⊎◌, ℕ, ◌+◌, ◌-◌, ◌<◌, ◌≤◌, Option, Some, None}
 use Rattle.pc_model.specs.declared.cell.Counter.TheVariants.{Stamp}
 use Rattle.pc_model.specs.declared.cell.Field.{Field}
 use Rattle.pc_model.specs.declared.cell.Field.TheVariants.{Version}
@@ -14,6 +14,7 @@ use Rattle.pc_rule_law.specs.Plays.{AddsNotes, IsNotedSince}
 use Rattle.pc_rule_law.specs.Views.{View}
 use Rattle.pc_protocol.specs.Histories.{Cause, withdrawn, ended, changed, locked, committed, aborted}
 use Rattle.pc_protocol.specs.Notes.{Note, clock_was, outdated, published, rival, verdict}
+use Rattle.pc_protocol.specs.Seeing.{Visits}
 use Rattle.pc_exchange_law.specs.Attempts.{AttemptNote, KnowsWord, KnowsEntry, KnowsVisit}
 use Rattle.pc_exchange_law.specs.Ties.{code, last_stamp}
 use Rattle.pc_exchange_law.specs.WholePlays.{after_clear}
@@ -22,7 +23,7 @@ use Rattle.pc_rule.specs.declared.board.Pass.{Pass}
 use Rattle.pc_rule.specs.declared.refs.Ref.{Ref}
 use Rattle.pc_rule.specs.Passes.{whole, view}
 use Rattle.pc_dcss.specs.Installs.{met_note}
-use Rattle.pc_kcas.specs.Exchanges.{own_exchange}
+use Rattle.pc_kcas.specs.Exchanges.{own_exchange, visit_count}
 use Rattle.pc_kcas.specs.Helping.{IsStoppedBy}
 use Rattle.pc_kcas.specs.Obstacles.{GoesOn, IsNotOwn, IsStuckAt}
 use Rattle.pc_kcas.specs.Stops.{AreInTheWay}
@@ -44,16 +45,21 @@ KnowsFailed y a cause = Has y.knows.told (verdict (code y.view.seat a) (aborted 
 abbrev pub KnowsChanged : Whole → ℕ → ℕ → Type 0
 KnowsChanged y a n = Has y.knows.told (outdated (code y.view.seat a) n)
 
--- that another pass has an exchange with this node's version, which wasn't cleared before the clock that was read before the
--- own publication
-abbrev pub KnowsRival : Whole → ℕ → ℕ → ℕ → Type 0
-KnowsRival y a n by = (e : Exchange) × (c : ℕ) × Has y.knows.told (published (code y.view.seat a) e c) × Has y.knows.told (rival by n c)
+-- that another pass has an exchange with the version of this node, which its own visits, and that wasn't cleared before the clock that
+-- was read before the own publication
+pub record KnowsRival (y : Whole) (a n by : ℕ) : Type 0 where
+  pub exchange : Exchange
+  pub clock : ℕ
+  pub noted : Has y.knows.told (published (code y.view.seat a) exchange clock)
+  pub visit : (v : ℕ) × Visits exchange n v
+  pub other : by ≢ y.view.seat
+  pub rival : Has y.knows.told (rival by n clock)
 
 -- the pass knows why its last attempt was decided as this status says
 pub record KnowsWhy (y : Whole) (s : Status) : Type 0 where
   pub settled : IsSettled y y.view.seat y.view.attempt.number s
   pub changed : (n : ℕ) → s.stage ≡ ChangedNode n → KnowsChanged y y.view.attempt.number n
-  pub locked : (n q : ℕ) → s.stage ≡ LockedNode n q → KnowsRival y y.view.attempt.number n q
+  pub locked : (n q : ℕ) → s.stage ≡ LockedNode n q → KnowsRival y y.view.attempt.number n q × (0 < visit_count y.view)
   pub ended : s.stage ≡ Withdrawn → Has y.knows.told (verdict (code y.view.seat y.view.attempt.number) (aborted ended))
 
 -- the pass's exchange has ended: it isn't published any more, and the pass knows what it knew
@@ -136,7 +142,7 @@ KnowsLost y a (OutOfNumbers n) = KnowsFailed y a withdrawn ⊎ KnowsFailed y a e
 abbrev pub EndedSo : Whole → ℕ → Verdict → (Ref → Ref → Type 0) → Type 0
 EndedSo y a (Won s) X = KnowsWon y a s
 EndedSo y a (Changed n) X = KnowsLost y a (Changed n) × KnowsChanged y a n
-EndedSo y a (Locked n by) X = KnowsLost y a (Locked n by) × (1 ≤ by) × KnowsRival y a n (by - 1)
+EndedSo y a (Locked n by) X = KnowsLost y a (Locked n by) × (1 ≤ by) × KnowsRival y a n (by - 1) × (0 < visit_count y.view)
 EndedSo y a (Blocked first second) X = KnowsLost y a (Blocked first second) × X first second
 EndedSo y a (OutOfNumbers n) X = KnowsLost y a (OutOfNumbers n) × IsAtLast y n
 

@@ -110,7 +110,7 @@ pub(crate) fn clear_listed<H: Shape>(board: &Board<H>, pass: &mut Pass<H>, won: 
     ensures learnt { HasLearnt (whole pass.old) (whole pass.new) }
     ensures clean { (i : ℕ) → i < length (listed pass.new) → IsCleanAt pass.new i }
 {
-    let count = pass.listed().len() as u32;
+    let count = board.count_listed(pass);
     let mut i = 0;
     while i < count {
         clear_at(board, pass, i, won);

@@ -4,7 +4,7 @@ ghost use Rattle.pc_rule_law.specs.Conditions.{CanWrite, IsFree};
 ghost use Rattle.pc_rule.specs.Passes.{whole, view, listed, board_size, IsPassOf, IsSeatedAs, IsSamePass, KeepsPath};
 ghost use Rattle.pc_kcas.specs.Bounds.{most_in_help, most_in_end};
 ghost use Rattle.pc_kcas.specs.Clearing.{HoldsListed, LeavesClean};
-ghost use Rattle.pc_kcas.specs.Exchanges.{IsPublished, IsHeldAt, own_exchange};
+ghost use Rattle.pc_kcas.specs.Exchanges.{visit_count, IsPublished, IsHeldAt, own_exchange};
 ghost use Rattle.pc_kcas.specs.Obstacles.{GoesOn};
 ghost use Rattle.pc_kcas.specs.Stops.{HasMetAt};
 ghost use Rattle.pc_kcas.specs.Takings.{HoldsBelow};
@@ -54,7 +54,7 @@ fn hold_listed<H: Shape>(board: &Board<H>, pass: &mut Pass<H>) -> Option<Stop>
     ensures before { IfSome result (λ stop. HoldsBelow (whole pass.new) (own_exchange pass.new) stop.at) }
     ensures met { IfSome result (λ stop. HasMetAt (board_size board.now).seats pass.old pass.new stop.at stop.obstacle) }
 {
-    let count = pass.listed().len() as u32;
+    let count = board.count_listed(pass);
     let mut at = 0;
     while at < count {
         match hold_at(board, pass, at) {
@@ -89,6 +89,7 @@ pub fn finish<H: Shape>(board: &Board<H>, pass: &mut Pass<H>) -> Verdict
     ensures lost { KnowsLost (whole pass.new) (view pass.new).attempt.number result }
     ensures changed { IfChanged result (KnowsChanged (whole pass.new) (view pass.new).attempt.number) }
     ensures locked { IfLocked result (λ n by. (1 ≤ by) × KnowsRival (whole pass.new) (view pass.new).attempt.number n (by - 1)) }
+    ensures visits { IfLocked result (λ n by. 0 < visit_count (view pass.old)) }
     ensures blocked { IfBlocked result (WasBlocked (board_size board.now).seats pass.old pass.new) }
     ensures numbers { IfNumbers result (IsAtLast (whole pass.new)) }
 

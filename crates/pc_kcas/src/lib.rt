@@ -21,6 +21,7 @@ mod helping;
 mod hold;
 mod installing;
 mod listing;
+mod locking;
 mod mode;
 mod obstacle;
 mod own;

@@ -40,7 +40,7 @@ fn own_old<H: Shape>(board: &Board<H>, pass: &Pass<H>, node: u32) -> Option<u64>
     ensures { ChangesFrom (whole pass.now) (own_exchange pass.now) node result }
 {
     let _ = board;
-    let count = pass.listed().len() as u32;
+    let count = board.count_listed(pass);
     let mut i = 0;
     while i < count {
         let place = pass.listed()[i as usize];

@@ -1,25 +1,38 @@
 //! The words of an exchange, stored in the own descriptor. One of the changes that has its value already isn't stored.
-ghost use Rattle.std.specs.Prelude.{◌≡◌, ◌<◌, ◌≤◌, length};
+ghost use Rattle.std.specs.Prelude.{◌≡◌, ◌+◌, ◌<◌, ◌≤◌, true, length};
+ghost use Rattle.pc_rule_law.specs.Board.{descriptor_words};
 ghost use Rattle.pc_rule_law.specs.Conditions.{CanWrite};
 ghost use Rattle.pc_rule_law.specs.Views.{word_in};
 ghost use Rattle.pc_rule.specs.Passes.{view, knows, listed, visits as held_visits, board_size, IsPassOf, IsSamePass};
-ghost use Rattle.pc_rule.specs.Stored.{kept_words};
 ghost use Rattle.pc_kcas.specs.Exchanges.{ListsTo, VisitsTo, SameBelow, OnlyWrote, OnlyStored, with_word, with_counts, with_change, with_visit_words};
 
 use pc_model::Shape;
 use pc_rule::{Board, Pass, Place, Visit, step_10};
 
-// A word of the own descriptor: it is stored, unless it stands there already.
+// How many words of its descriptor a pass keeps.
+const KEPT_WORDS: u32 = 75;
+
+// Whether a word of the own descriptor is kept and stands already.
+fn stands<H: Shape>(pass: &Pass<H>, place: u32, word: u64) -> bool
+    ensures { result ≡ true → word_in (view pass.now).attempt.words place ≡ word }
+{
+    if place >= KEPT_WORDS {
+        return false;
+    }
+    pass.attempt_word(place) == word
+}
+
+// A word of the own descriptor: it is stored, unless it is known to stand there already.
 fn write_word<H: Shape>(board: &Board<H>, pass: &mut Pass<H>, place: u32, word: u64)
     requires pass { IsPassOf board.now pass.old }
     requires may { CanWrite (view pass.old) }
-    requires place { place < kept_words }
+    requires place { place < descriptor_words (board_size board.now).slots }
     ensures pass { IsSamePass pass.old pass.new }
     ensures only { OnlyWrote (view pass.old) (view pass.new) }
     ensures beside { OnlyStored (knows pass.old) (knows pass.new) }
     ensures words { word_in (view pass.new).attempt.words ≡ with_word (word_in (view pass.old).attempt.words) place word }
 {
-    if pass.attempt_word(place) == word {
+    if stands(pass, place, word) {
         return;
     }
     step_10(board, pass, place, word);
@@ -43,7 +56,7 @@ fn write_counts<H: Shape>(board: &Board<H>, pass: &mut Pass<H>, mode: u64, count
 fn write_change<H: Shape>(board: &Board<H>, pass: &mut Pass<H>, i: u32, place: Place)
     requires pass { IsPassOf board.now pass.old }
     requires may { CanWrite (view pass.old) }
-    requires few { i < 24 }
+    requires few { (i < 25 + (board_size board.now).slots) × (i < 61025) }
     ensures pass { IsSamePass pass.old pass.new }
     ensures only { OnlyWrote (view pass.old) (view pass.new) }
     ensures beside { OnlyStored (knows pass.old) (knows pass.new) }
@@ -63,7 +76,7 @@ pub(crate) fn write_listed<H: Shape>(board: &Board<H>, pass: &mut Pass<H>, mode:
     ensures beside { OnlyStored (knows pass.old) (knows pass.new) }
     ensures words { ListsTo mode visits (listed pass.new) (word_in (view pass.new).attempt.words) (length (listed pass.new)) }
 {
-    let count = pass.listed().len() as u32;
+    let count = board.count_listed(pass);
     write_counts(board, pass, mode, count, visits);
     let mut i = 0;
     while i < count {

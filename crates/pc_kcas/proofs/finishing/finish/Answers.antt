@@ -1,15 +1,15 @@
 -- What was held and met, the end, and the list that is dropped.
-use Rattle.std.proofs.Common.{ap, ◌∙◌, subst, sym}
+use Rattle.std.proofs.Common.{◌≡◌, ◌<◌, ap, ◌∙◌, subst, sym}
 use Rattle.pc_exchange_law.specs.Wholes.{Whole}
 use Rattle.pc_rule_law.specs.Conditions.{IsFree}
 use Rattle.pc_rule_law.specs.Past.{Has}
-use Rattle.pc_rule_law.specs.Views.{View, clean}
+use Rattle.pc_rule_law.specs.Views.{View, OwnAttempt, clean, word_in}
 use Rattle.pc_rule.specs.Passes.{whole, view, board_size}
 use Rattle.pc_rule.proofs.Calls.{only_listed, pass_stays}
-use Rattle.pc_kcas.specs.Exchanges.{own_exchange}
-use Rattle.pc_kcas.specs.Verdicts.{EndedSo, KeepsAll, WereBlockedBy, KnewBetween, IsBlocked}
+use Rattle.pc_kcas.specs.Exchanges.{visit_count, own_exchange}
+use Rattle.pc_kcas.specs.Verdicts.{IfLocked, EndedSo, KeepsAll, WereBlockedBy, KnewBetween, IsBlocked}
 use Rattle.pc_kcas.proofs.Counted.{same_after}
-use Rattle.pc_kcas.proofs.Finished.{ended_free, kept_ended, so_won, so_lost, so_changed, so_locked, so_blocked, so_numbers, seated_then, why_stopped, blocked_ended, clean_listed}
+use Rattle.pc_kcas.proofs.Finished.{ended_free, kept_ended, so_won, so_lost, so_changed, so_locked, so_visits, so_blocked, so_numbers, seated_then, why_stopped, blocked_ended, clean_listed}
 use Rattle.pc_kcas.proofs.finishing.finish.Goals as goal
 
 pub end_at-verdict-requires-clause-why : goal.end_at-verdict-requires-clause-why
@@ -58,6 +58,11 @@ pub returns-clause-locked : goal.returns-clause-locked
 returns-clause-locked g c = let y = whole c.drop_listed.new.self in let q = c.hold_listed-stopped.new.pass in let by = WereBlockedBy c.hold_listed-stopped.result (whole q) (whole c.end_at-verdict.new.pass) (own_exchange q) in
     so_locked y y.view.attempt.number by c.end_at-verdict.result
     (subst (λ (w : Whole). EndedSo w w.view.attempt.number c.end_at-verdict.result by) (sym (ap (λ t. t.me.0) c.drop_listed.ensures.only.0)) c.end_at-verdict.ensures.so)
+
+pub returns-clause-visits : goal.returns-clause-visits
+returns-clause-visits g c = let p = c.args.pass.now in let q = c.hold_listed-stopped.new.pass in let r = c.end_at-verdict.new.pass in let by = WereBlockedBy c.hold_listed-stopped.result (whole q) (whole r) (own_exchange q) in
+    let same : visit_count (view r) ≡ visit_count (view p) = ap visit_count c.end_at-verdict.ensures.ended.view ∙ ap (λ (a : OwnAttempt). word_in a.words 2) c.hold_listed-stopped.ensures.goes_on.attempt.0 in
+    subst (λ k. IfLocked c.end_at-verdict.result (λ n by. 0 < k)) same (so_visits (whole r) (view r).attempt.number by c.end_at-verdict.result c.end_at-verdict.ensures.so)
 
 pub returns-clause-numbers : goal.returns-clause-numbers
 returns-clause-numbers g c = let y = whole c.drop_listed.new.self in let q = c.hold_listed-stopped.new.pass in let by = WereBlockedBy c.hold_listed-stopped.result (whole q) (whole c.end_at-verdict.new.pass) (own_exchange q) in
