@@ -1,5 +1,5 @@
 -- What an exchange that was published and ended answers, by what each part says.
-use Rattle.std.proofs.Common.{ℕ, List, Result, Ok, Err, IfOk, IfErr, OnErr, inr}
+use Rattle.std.proofs.Common.{ℕ, ◌<◌, List, Result, Ok, Err, IfOk, IfErr, OnErr, inr, arith}
 use Rattle.std.specs.List.Sorted.{IsPermutation}
 use Rattle.pc_protocol.specs.Notes.{Note}
 use Rattle.pc_rule_law.specs.Plays.{AddsNotes}
@@ -10,11 +10,12 @@ use Rattle.pc_exchange_law.specs.Wholes.{Whole}
 use Rattle.pc_rule.specs.declared.opening.Place.{Place}
 use Rattle.pc_kcas.specs.declared.mode.Mode.{Mode}
 use Rattle.pc_kcas.specs.Exchanges.{exchange_by}
+use Rattle.pc_kcas.specs.Locks.{words_by}
 use Rattle.pc_kcas.specs.Verdicts.{KeepsAll, IsAtLast}
 use Rattle.pc_path.specs.declared.lost.Lost.{Lost}
 use Rattle.pc_path.specs.declared.lost.Lost.TheVariants.{Changed, Locked, Blocked, Numbers as OutOfNumbers}
 use Rattle.pc_path.specs.Exchanges.{HasTakenPlace, HasExchanged, HasFailed, HasNoEffect, IsOutOfNumbers, WasInTheWay}
-use Rattle.pc_path.specs.Losses.{IfBlocked, IfNumbers}
+use Rattle.pc_path.specs.Losses.{IfLocked, IfBlocked, IfNumbers}
 
 pub kept_then : (x y z : Whole) → KeepsAll x y → KeepsAll y z → KeepsAll x z
 kept_then x y z a b = record {
@@ -23,7 +24,7 @@ kept_then x y z a b = record {
   told = λ n h. b.told n (a.told n h);
 }
 
-pub exchanged_ok : (seen : List Note) (y : Whole) (mode : Mode) (p : Path) (places ordered : List Place) (a : Result ℕ Lost) → IsPermutation places ordered
+pub exchanged_ok : (seen : List Note) (y : Whole) (mode : Mode) (p : Path) (places ordered : List Place) (a : Result ℕ Lost) → IsPermutation (words_by mode p places) ordered
     → IfOk a (HasTakenPlace seen y (exchange_by mode p ordered)) → IfOk a (HasExchanged seen y mode p places)
 exchanged_ok seen y mode p places ordered (Ok s) same is = (ordered, same, is)
 exchanged_ok seen y mode p places ordered (Err e) same is = tt
@@ -54,3 +55,15 @@ pub blocked_then : (links : ℕ) (v u : View) (y : Whole) (a : Result ℕ Lost) 
 unfolding lost_blocked
 blocked_then links v u y (Ok s) adds is = tt
 blocked_then links v u y (Err e) adds is = lost_blocked links v u y e adds is
+
+-- nothing that visits no node is stopped by a lock
+never : (e : Lost) → IfLocked e (λ n by. 0 < 0) → IfLocked e (λ n by. ⊥)
+never (Changed n seen) is = tt
+never (Locked n by) is = absurd (omega (arith, is))
+never (Blocked first second) is = tt
+never (OutOfNumbers k) is = tt
+
+pub never_locked : (a : Result ℕ Lost) → IfErr a (λ e. IfLocked e (λ n by. 0 < 0)) → IfErr a (λ e. IfLocked e (λ n by. ⊥))
+unfolding never
+never_locked (Ok s) is = tt
+never_locked (Err e) is = never e is

@@ -5,7 +5,10 @@ pub mod Endings
 pub mod Exchanged
 pub mod Faults
 pub mod Found
+pub mod Known
 pub mod Leaving
 pub mod Losing
+pub mod Moving
 pub mod Paths
 pub mod Places
+pub mod Sitting

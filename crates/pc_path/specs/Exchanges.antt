@@ -21,10 +21,11 @@ use Rattle.pc_kcas.specs.declared.mode.Mode.{Mode}
 use Rattle.pc_kcas.specs.declared.verdict.Verdict.{Verdict}
 use Rattle.pc_kcas.specs.declared.verdict.Verdict.TheVariants.{Won, Changed as NodeChanged, Locked as NodeLocked, Blocked as WasStuck, Numbers as HadNoNumber}
 use Rattle.pc_kcas.specs.Exchanges.{exchange_by, last_attempt}
+use Rattle.pc_kcas.specs.Locks.{words_by}
 use Rattle.pc_kcas.specs.Verdicts.{KnowsFailed, KnowsChanged, KnowsRival, KnewBetween, IsBlocked, IsAtLast}
 use Rattle.pc_path.specs.declared.lost.Lost.{Lost}
 use Rattle.pc_path.specs.declared.lost.Lost.TheVariants.{Changed, Locked, Blocked, Numbers as OutOfNumbers}
-use Rattle.pc_path.specs.Losses.{IsFirstVisit}
+use Rattle.pc_path.specs.Losses.{IsFirstVisit, WasSeenToMove}
 
 -- The pass has noted that an attempt of its own is this exchange, and that it took effect at this stamp: so it stands in the board's run
 -- there. The clock before its publication, which isn't above the stamp, is above each stamp that these notes tell of.
@@ -35,9 +36,10 @@ pub record HasTakenPlace (seen : List Note) (y : Whole) (e : Exchange) (s : ℕ)
   pub above : IsAboveSeen seen clock
   pub won : Has y.knows.told (verdict (code y.view.seat attempt) (committed s))
 
--- so did the exchange that changes these words, in some order, and takes by its mode what was visited and read
+-- so did the exchange that changes these words, in some order, with the locks of the path where its mode asks for them, and takes by its mode
+-- what was visited and read
 abbrev pub HasExchanged : List Note → Whole → Mode → Path → List Place → ℕ → Type 0
-HasExchanged seen y mode p places s = (ordered : List Place) × IsPermutation places ordered
+HasExchanged seen y mode p places s = (ordered : List Place) × IsPermutation (words_by mode p places) ordered
     × HasTakenPlace seen y (exchange_by mode p ordered) s
 
 -- the pass's last attempt was decided as failed, so it is in no run
@@ -56,7 +58,12 @@ WasSeen visits n seen = IsFirstVisit visits n seen ⊎ ((v : Visit) → Has visi
 abbrev pub IsPast : List Visit → Whole → ℕ → ℕ → Type 0
 IsPast visits y n seen = KnowsChanged y y.view.attempt.number n × WasSeen visits n seen
 
--- another pass has an exchange with the node's version, which wasn't cleared before the last attempt was published
+-- the same, or a later one of these visits gave a greater version of the node than the first one
+abbrev pub HasMoved : List Visit → Whole → ℕ → ℕ → Type 0
+HasMoved visits y n seen = IsPast visits y n seen ⊎ WasSeenToMove visits n seen
+
+-- another pass has an exchange with the version of the node, which the last attempt visits, and that wasn't cleared before this was
+-- published
 abbrev pub HasRival : Whole → ℕ → ℕ → Type 0
 HasRival y n by = (1 ≤ by) × KnowsRival y y.view.attempt.number n (by - 1)
 
@@ -80,3 +87,7 @@ answer_as (NodeChanged n) seen = Err (Changed n seen)
 answer_as (NodeLocked n by) seen = Err (Locked n by)
 answer_as (WasStuck first second) seen = Err (Blocked first second)
 answer_as (HadNoNumber n) seen = Err (OutOfNumbers n)
+
+-- and where a visit gave another version than the first one, which gave this
+abbrev pub lost_at : Visit → Lost
+lost_at u = Changed u.node u.version

@@ -22,7 +22,15 @@ pub record IsFirstVisit (visits : List Visit) (n seen : ℕ) : Type 0 where
   pub at : get_elem? visits place ≡ some (record { node = n; version = seen })
   pub before : (i : ℕ) (v : Visit) → i < place → get_elem? visits i ≡ some v → v.node ≢ n
 
--- and the pass has noted a greater version of the node, so its version is above that one from then on
+-- and a later one of them gave a greater version
+pub record WasSeenToMove (visits : List Visit) (n seen : ℕ) : Type 0 where
+  pub first : IsFirstVisit visits n seen
+  pub again : Visit
+  pub among : Has visits again
+  pub node : again.node ≡ n
+  pub above : seen < again.version
+
+-- the first of these visits gave this version, and the pass has noted a greater one of the node: so its version is above from then on
 pub record HasChanged (visits : List Visit) (y : Whole) (n seen : ℕ) : Type 0 where
   pub first : IsFirstVisit visits n seen
   pub now : ℕ

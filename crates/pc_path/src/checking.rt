@@ -90,8 +90,8 @@ fn find_checked<H: Shape>(board: &Board<H>, pass: &mut Pass<H>, node: u32) -> Re
     }
 }
 
-// The version that the first visit of a node gave, by the place of one of its visits.
-fn first_seen(visits: &[Visit], at: usize) -> u64
+/// The version that the first visit of a node gave, by the place of one of its visits.
+pub(crate) fn first_seen(visits: &[Visit], at: usize) -> u64
     requires { at < length visits.now }
     ensures { (v : VisitOf) → get_elem? visits.now at ≡ some v → IsFirstVisit visits.now v.node result }
 {

@@ -7,7 +7,8 @@ ghost use Rattle.pc_protocol.specs.Notes.{Note};
 ghost use Rattle.pc_exchange_law.specs.Paths.{dropped};
 ghost use Rattle.pc_rule.specs.Passes.{whole, view, knows, visits, path, listed, recorded, carried, taken_down, board_size, IsPassOf, IsSeatedAs, SitsAs, KeepsPath};
 ghost use Rattle.pc_kcas.specs.declared.mode.Mode.TheVariants.{Words, Path as OfPath};
-ghost use Rattle.pc_kcas.specs.Exchanges.{RaisesVersions, FitsByMode, IsUnlocked, KnowsOldValues, KnowsAbove, IsPublished, exchange_by, last_attempt};
+ghost use Rattle.pc_kcas.specs.Exchanges.{RaisesVersions, FitsByMode, KnowsOldValues, KnowsAbove, IsPublished, exchange_by, visit_count, visits_by, last_attempt};
+ghost use Rattle.pc_kcas.specs.Locks.{words_by, WhereLocked, CanLock};
 ghost use Rattle.pc_kcas.specs.Verdicts.{KeepsAll, IsAtLast};
 ghost use Rattle.pc_path.specs.Exchanges.{HasTakenPlace, HasExchanged, HasFailed, HasNoEffect, HasRival, IsPast, IsAtLastAttempt, IsOutOfNumbers, WasInTheWay};
 ghost use Rattle.pc_path.specs.Losses.{IfChanged, IfLocked, IfBlocked, IfNumbers};
@@ -29,7 +30,7 @@ fn begun<H: Shape>(board: &Board<H>, pass: &mut Pass<H>, mode: Mode) -> Result<(
     requires raises { RaisesVersions (listed pass.old) }
     requires fits { FitsByMode H.form (view pass.old).size.slots mode (path pass.old) (listed pass.old) }
     requires old { KnowsOldValues (board_size board.now) (knows pass.old) (listed pass.old) }
-    requires mode { IsUnlocked mode }
+    requires locks { WhereLocked mode (CanLock (visits pass.old) (listed pass.old)) }
     ensures seated { SitsAs pass.old pass.new × IsPassOf board.now pass.new }
     ensures free { IsFree (view pass.new) }
     ensures kept { KeepsAll (whole pass.old) (whole pass.new) }
@@ -38,7 +39,8 @@ fn begun<H: Shape>(board: &Board<H>, pass: &mut Pass<H>, mode: Mode) -> Result<(
     // What is published.
     ensures published { OnOk result (IsPublished pass.new) }
     ensures noted { OnOk result (KnowsAbove (knows pass.old).told (whole pass.new) (exchange_by mode (path pass.old) (listed pass.new))) }
-    ensures each { OnOk result (IsPermutation (listed pass.old) (listed pass.new)) }
+    ensures each { OnOk result (IsPermutation (words_by mode (path pass.old) (listed pass.old)) (listed pass.new)) }
+    ensures counted { OnOk result (visit_count (view pass.new) ≡ length (visits_by mode (path pass.old))) }
     ensures same { OnOk result (IsSeatedAs pass.old pass.new × KeepsPath pass.old pass.new) }
 
     // Why it isn't.
@@ -59,8 +61,12 @@ fn begun<H: Shape>(board: &Board<H>, pass: &mut Pass<H>, mode: Mode) -> Result<(
     }
 }
 
-// Makes one exchange of all changes that were added, in a mode.
-fn exchanged<H: Shape>(board: &Board<H>, pass: &mut Pass<H>, mode: Mode) -> Result<u64, Lost>
+/// Makes one exchange of all changes that were added, in a mode.
+pub(crate) fn exchanged<H: Shape>(
+    board: &Board<H>,
+    pass: &mut Pass<H>,
+    mode: Mode,
+) -> Result<u64, Lost>
     requires pass { IsPassOf board.now pass.old }
     requires unpublished { CanWrite (view pass.old) }
     requires free { IsFree (view pass.old) }
@@ -68,7 +74,7 @@ fn exchanged<H: Shape>(board: &Board<H>, pass: &mut Pass<H>, mode: Mode) -> Resu
     requires raises { RaisesVersions (listed pass.old) }
     requires fits { FitsByMode H.form (view pass.old).size.slots mode (path pass.old) (listed pass.old) }
     requires old { KnowsOldValues (board_size board.now) (knows pass.old) (listed pass.old) }
-    requires mode { IsUnlocked mode }
+    requires locks { WhereLocked mode (CanLock (visits pass.old) (listed pass.old)) }
     ensures seated { SitsAs pass.old pass.new × IsPassOf board.now pass.new }
     ensures unpublished { CanWrite (view pass.new) }
     ensures free { IsFree (view pass.new) }
@@ -83,6 +89,7 @@ fn exchanged<H: Shape>(board: &Board<H>, pass: &mut Pass<H>, mode: Mode) -> Resu
     ensures lost { OnErr result (HasNoEffect (view pass.old) (whole pass.new)) }
     ensures changed { IfErr result (λ e. IfChanged e (IsPast (visits pass.old) (whole pass.new))) }
     ensures locked { IfErr result (λ e. IfLocked e (HasRival (whole pass.new))) }
+    ensures walked { IfErr result (λ e. IfLocked e (λ n by. 0 < length (visits_by mode (path pass.old)))) }
     ensures blocked { IfErr result (λ e. IfBlocked e (WasInTheWay (board_size board.now).seats (view pass.old) (whole pass.new))) }
     ensures numbers { IfErr result (λ e. IfNumbers e (IsOutOfNumbers (view pass.old) (whole pass.new))) }
 {
@@ -127,7 +134,7 @@ pub fn exec<H: Shape>(board: &Board<H>, pass: &mut Pass<H>) -> Result<u64, Lost>
     // Why it was lost.
     ensures lost { OnErr result (HasNoEffect (view pass.old) (whole pass.new)) }
     ensures changed { IfErr result (λ e. IfChanged e (IsPast (visits pass.old) (whole pass.new))) }
-    ensures locked { IfErr result (λ e. IfLocked e (HasRival (whole pass.new))) }
+    ensures never_locked { IfErr result (λ e. IfLocked e (λ n by. ⊥)) }
     ensures blocked { IfErr result (λ e. IfBlocked e (WasInTheWay (board_size board.now).seats (view pass.old) (whole pass.new))) }
     ensures numbers { IfErr result (λ e. IfNumbers e (IsOutOfNumbers (view pass.old) (whole pass.new))) }
 {

@@ -7,7 +7,7 @@ ghost use Rattle.pc_protocol.specs.Notes.{Note};
 ghost use Rattle.pc_exchange_law.specs.Paths.{dropped};
 ghost use Rattle.pc_rule.specs.declared.visit.Visit.{Visit as VisitOf};
 ghost use Rattle.pc_rule.specs.Passes.{whole, view, visits, path, listed, recorded, carried, taken_down, board_size, IsPassOf, SitsAs};
-ghost use Rattle.pc_kcas.specs.Exchanges.{IsPublished, KnowsAbove};
+ghost use Rattle.pc_kcas.specs.Exchanges.{visit_count, IsPublished, KnowsAbove};
 ghost use Rattle.pc_kcas.specs.Verdicts.{KeepsAll, IsAtLast, IfChanged as IfNodeChanged};
 ghost use Rattle.pc_path.specs.Exchanges.{answer_as, HasTakenPlace, HasFailed, HasRival, IsPast, WasInTheWay, WasSeen};
 ghost use Rattle.pc_path.specs.Losses.{IsFirstVisit, IfChanged, IfLocked, IfBlocked, IfNumbers};
@@ -84,6 +84,7 @@ pub(crate) fn ended<H: Shape>(board: &Board<H>, pass: &mut Pass<H>) -> Result<u6
     ensures lost { OnErr result (HasFailed (whole pass.new)) }
     ensures changed { IfErr result (λ e. IfChanged e (IsPast (visits pass.old) (whole pass.new))) }
     ensures locked { IfErr result (λ e. IfLocked e (HasRival (whole pass.new))) }
+    ensures walked { IfErr result (λ e. IfLocked e (λ n by. 0 < visit_count (view pass.old))) }
     ensures blocked { IfErr result (λ e. IfBlocked e (WasInTheWay (board_size board.now).seats (view pass.old) (whole pass.new))) }
     ensures numbers { IfErr result (λ e. IfNumbers e (IsAtLast (whole pass.new))) }
 {

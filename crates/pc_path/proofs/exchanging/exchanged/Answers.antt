@@ -1,11 +1,11 @@
 -- The exchange is published, and then ended.
-use Rattle.std.proofs.Common.{List, IfErr, ap, ◌∙◌, subst, inl}
+use Rattle.std.proofs.Common.{◌<◌, List, IfErr, ap, ◌∙◌, subst, inl}
 use Rattle.pc_exchange_law.specs.Paths.{dropped}
 use Rattle.pc_rule.specs.declared.visit.Visit.{Visit}
 use Rattle.pc_rule.specs.Passes.{whole, view, knows, path, listed, board_size}
 use Rattle.pc_kcas.specs.Exchanges.{exchange_by}
 use Rattle.pc_path.specs.Exchanges.{IsPast}
-use Rattle.pc_path.specs.Losses.{IfChanged}
+use Rattle.pc_path.specs.Losses.{IfChanged, IfLocked}
 use Rattle.pc_path.proofs.Endings.{sits_then, recorded_ok, recorded_err}
 use Rattle.pc_path.proofs.Exchanged.{kept_then, exchanged_ok, no_effect_err, numbers_then, blocked_then}
 use Rattle.pc_path.proofs.Paths.{path_kept, visits_kept}
@@ -41,6 +41,9 @@ returns-in-Ok-clause-changed g c = let p = c.args.pass.now in let q = c.begun.ne
 pub returns-in-Ok-clause-blocked : goal.returns-in-Ok-clause-blocked
 returns-in-Ok-clause-blocked g c = let p = c.args.pass.now in let q = c.begun.new.pass in
     blocked_then (board_size c.args.board.now).seats (view p) (view q) (whole c.ended.new.pass) c.ended.result c.begun.ensures.kept.notes c.ended.ensures.blocked
+
+pub returns-in-Ok-clause-walked : goal.returns-in-Ok-clause-walked
+returns-in-Ok-clause-walked g c = subst (λ k. IfErr c.ended.result (λ e. IfLocked e (λ n by. 0 < k))) c.in-Ok.ensures.counted c.ended.ensures.walked
 
 pub returns-in-Ok-clause-numbers : goal.returns-in-Ok-clause-numbers
 returns-in-Ok-clause-numbers g c = numbers_then (view c.args.pass.now) (whole c.ended.new.pass) c.ended.result c.ended.ensures.numbers

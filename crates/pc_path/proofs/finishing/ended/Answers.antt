@@ -1,11 +1,12 @@
 -- The exchange ends, and what is recorded and dropped after it.
-use Rattle.std.proofs.Common.{[], refl, IfOk, IfErr, OnErr, sym, ap, ◌∙◌, subst}
+use Rattle.std.proofs.Common.{◌<◌, [], refl, IfOk, IfErr, OnErr, sym, ap, ◌∙◌, subst}
 use Rattle.pc_rule_law.specs.Conditions.{CanWrite, IsFree}
 use Rattle.pc_exchange_law.specs.Paths.{dropped}
 use Rattle.pc_exchange_law.specs.Wholes.{Whole}
 use Rattle.pc_rule.specs.Carrying.{HasTakenEffect}
 use Rattle.pc_rule.specs.Passes.{whole, view, visits, board_size}
 use Rattle.pc_rule.proofs.Calls.{pass_stays}
+use Rattle.pc_kcas.specs.Exchanges.{visit_count}
 use Rattle.pc_kcas.specs.Verdicts.{KeepsAll, KnowsWon, WasBlocked, IsAtLast}
 use Rattle.pc_kcas.specs.Verdicts.{IfChanged as IfNodeChanged}
 use Rattle.pc_path.specs.Exchanges.{HasTakenPlace, HasFailed, HasRival, IsPast, WasInTheWay, WasSeen}
@@ -78,6 +79,11 @@ returns-clause-locked g c = let q = c.finish-verdict.new.pass in
     subst (λ (y : Whole). IfErr c.answer_of-answer.result (λ e. IfLocked e (HasRival y))) (sym (whole_same q c.conclude.new.pass c.conclude.ensures.only))
     (subst (λ a. IfErr a (λ e. IfLocked e (HasRival (whole q)))) (sym c.answer_of-answer.ensures)
     (locked_err (HasRival (whole q)) c.finish-verdict.result c.seen_by.result c.finish-verdict.ensures.locked))
+
+pub returns-clause-walked : goal.returns-clause-walked
+returns-clause-walked g c = let X = 0 < visit_count (view c.args.pass.now) in
+    subst (λ a. IfErr a (λ e. IfLocked e (λ n by. X))) (sym c.answer_of-answer.ensures)
+    (locked_err (λ n by. X) c.finish-verdict.result c.seen_by.result c.finish-verdict.ensures.visits)
 
 pub returns-clause-blocked : goal.returns-clause-blocked
 returns-clause-blocked g c = let p = c.args.pass.now in let q = c.finish-verdict.new.pass in let links = (board_size c.args.board.now).seats in
