@@ -13,7 +13,10 @@ use Rattle.pc_model.specs.Linked.{IsLinkField, IsUnmarked, IsChildOf, IsLinked}
 use Rattle.pc_model.specs.Shapes.{loose_form}
 use Rattle.pc_rule.specs.declared.opening.Place.{Place}
 use Rattle.pc_rule.specs.Starting.{change_of}
-use Rattle.pc_kcas.specs.Exchanges.{FitsInEachOrder}
+use Rattle.pc_exchange_law.specs.Paths.{Path}
+use Rattle.pc_kcas.specs.declared.mode.Mode.{Mode}
+use Rattle.pc_kcas.specs.Exchanges.{FitsByMode}
+use Rattle.pc_kcas.specs.Locks.{words_by}
 use Rattle.board_trials.specs.Words.{IsOther}
 
 -- cells with the same links, and versions that are even where they were, are linked where the others are
@@ -114,21 +117,23 @@ all_linked slots [] c all l = l
 all_linked slots (p ∷ places) c all l = all_linked slots places (written p.node p.field p.new c) (λ k d lt. all (suc k) d (omega arith))
     (one_linked slots p.node p.field p.new c (all 0 p (omega arith)) l)
 
--- such changes fit in each order
-pub loose_fits : (slots : ℕ) (places : List Place) → All IsLoosePlace places → FitsInEachOrder loose_form slots places
+-- an exchange of such changes fits in each order, whatever it visits and reads
+pub loose_fits : (slots : ℕ) (m : Mode) (path : Path) (places : List Place) → All IsLoosePlace (words_by m path places) → FitsByMode loose_form slots m path places
 unfolding all_linked
-loose_fits slots places all ordered same = (
+loose_fits slots m path places all ordered same = (
   [],
   record {
-    leaves = λ c sound stands. (sound.0, (all_linked slots ordered c (All-permutation IsLoosePlace places ordered same all) sound.1.0, sound.1.1));
+    leaves = λ c sound stands. (sound.0, (all_linked slots ordered c (All-permutation IsLoosePlace (words_by m path places) ordered same all) sound.1.0, sound.1.1));
     charges = λ c k sound stands debt. absurd debt;
   },
 )
 
--- two of them
-pub two_loose : (slots : ℕ) (p q : Place) (places : List Place) → places ≡ p ∷ q ∷ [] → IsLoosePlace p → IsLoosePlace q → FitsInEachOrder loose_form slots places
+-- two of them, in a mode that adds no locks
+pub two_loose : (slots : ℕ) (m : Mode) (path : Path) (p q : Place) (places : List Place) → words_by m path (p ∷ q ∷ []) ≡ p ∷ q ∷ []
+    → places ≡ p ∷ q ∷ [] → IsLoosePlace p → IsLoosePlace q → FitsByMode loose_form slots m path places
 unfolding loose_fits
-two_loose slots p q places is one two = subst (FitsInEachOrder loose_form slots) (sym is) (loose_fits slots (p ∷ q ∷ []) both)
+two_loose slots m path p q places unlocked is one two = subst (FitsByMode loose_form slots m path) (sym is)
+    (loose_fits slots m path (p ∷ q ∷ []) (subst (All IsLoosePlace) (sym unlocked) both))
   where
     both : All IsLoosePlace (p ∷ q ∷ [])
     both zero d lt = one

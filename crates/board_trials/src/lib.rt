@@ -15,8 +15,6 @@ mod helps;
 #[cfg(test)]
 mod meetings;
 #[cfg(test)]
-mod paths;
-#[cfg(test)]
 mod rows;
 #[cfg(test)]
 mod steps;

@@ -1,11 +1,12 @@
 -- The words are listed one after the other, and then published.
-use Rattle.std.proofs.Common.{◌∙◌, [], ◌∷◌, ◌++◌, ap, subst, sym}
+use Rattle.std.proofs.Common.{refl, ◌∙◌, [], ◌∷◌, ◌++◌, ap, subst, sym}
 use Rattle.std.specs.Prelude.{OnOk}
 use Rattle.std.specs.List.Sorted.{IsPermutation}
 use Rattle.pc_model.specs.Cells.{IsEven}
 use Rattle.pc_rule_law.specs.Conditions.{IsFree}
-use Rattle.pc_rule.specs.Passes.{view, knows, listed, board_size}
+use Rattle.pc_rule.specs.Passes.{view, knows, path, listed, board_size}
 use Rattle.pc_dcss.specs.Installs.{KnowsPlace}
+use Rattle.pc_kcas.specs.declared.mode.Mode.TheVariants.{Words}
 use Rattle.pc_kcas.specs.Exchanges.{KnowsOldValues, own_exchange}
 use Rattle.board_trials.proofs.Loosely.{IsLoose, even_next, other_loose, two_loose}
 use Rattle.board_trials.proofs.Published.{free_after, known_listed}
@@ -13,7 +14,7 @@ use Rattle.board_trials.proofs.exchanges.published_from.Goals as goal
 
 pub publish-requires-clause-fits : goal.publish-requires-clause-fits
 publish-requires-clause-fits c κs = let p = c.word-2.new.pass in
-    two_loose (view p).size.slots c.args.one c.args.two (listed p)
+    two_loose (view p).size.slots Words (path p) c.args.one c.args.two (listed p) refl
     (c.word-2.ensures.listed ∙ ap (λ l. l ++ c.args.two ∷ []) (c.word.ensures.listed ∙ ap (λ l. l ++ c.args.one ∷ []) c.requires.open.1))
     (subst (λ f. IsLoose c.args.one.node f c.args.one.new) (sym c.requires.one.1) (c.requires.one.0, subst IsEven (sym c.requires.one.3) (even_next c.args.one.old c.requires.one.2)))
     (other_loose c.args.two.node c.args.two.new c.args.two.field c.requires.two.1)
