@@ -26,12 +26,34 @@ impl Board {
         let count = board.own(passes);
         board.words = (0..count).map(|_| AtomicU64::new(0)).collect();
         board.words[CLOCK].store(clock, SeqCst);
-        board.words[16 + 8 * slots].store(1, SeqCst);
+        board.words[board.epoch()].store(1, SeqCst);
+        board
+    }
+
+    /// A board with the sentinel alone, whose key is the greatest number of a word.
+    pub fn open_right(passes: u32) -> Board {
+        let board = Board::open(passes, 0, 1);
+        board.words[9].store(4 * ((1 << 62) - 1), SeqCst);
         board
     }
 
     pub fn passes(&self) -> u32 {
         self.passes
+    }
+
+    /// How many visits an operation may make.
+    pub fn most_visits(&self) -> usize {
+        self.slots + 1
+    }
+
+    /// Where the visits lie in a descriptor.
+    pub fn first_visit(&self) -> usize {
+        3 + 3 * (25 + self.slots)
+    }
+
+    /// Where the epoch lies.
+    pub fn epoch(&self) -> usize {
+        16 + 8 * self.slots
     }
 
     /// Where the words of the pass at this seat begin: a multiple of eight words after those of the seat before.
@@ -73,6 +95,12 @@ pub enum Fault {
     LeavesLast,
     /// Says that it was stopped without a look at the operation.
     StopsUnseen,
+    /// Makes a read without another look at its visits.
+    ReadsUnchecked,
+    /// Draws the stamp of a read after these looks.
+    StampLast,
+    /// Records the call of an operation that is lost.
+    RecordsLost,
 }
 
 /// What a pass does beside the protocol: known when the program is built, so that the plain pass pays for none of it.
@@ -171,6 +199,7 @@ impl<'b, V: Variant> Seat<'b, V> {
 }
 
 /// Numbers by chance, from a seed (xorshift).
+#[derive(Clone, Copy)]
 pub struct Chance(u64);
 
 impl Chance {

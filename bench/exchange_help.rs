@@ -1,7 +1,7 @@
 //! The rest of the exchange: holding all its words, past the installs and exchanges of others, its decision and its clearing,
 //! by its owner or by whoever meets it.
 use crate::exchange_board::{CLOCK, DESCRIPTOR, Fault, MOST_CHANGES, STATUS, Variant};
-use crate::exchange_pass::{Change, Counter, Installed, Pass};
+use crate::exchange_pass::{Change, Counter, Installed, Pass, Visit};
 use crate::exchange_words::{Ref, Stage, Status, Word};
 
 const LAST_STAMP: u64 = (1 << 34) - 1;
@@ -22,6 +22,7 @@ pub enum Helped {
 pub enum Verdict {
     Won { stamp: u64 },
     Changed { node: u32 },
+    Locked { node: u32, seat: u32 },
     Blocked { first: Word, second: Word },
     /// Given up by a call of its owner.
     Withdrawn,
@@ -30,7 +31,7 @@ pub enum Verdict {
 
 /// Why an operation can't go on: two references stood where one may be passed, or the links are used up; or a counter ends.
 #[derive(Clone, Copy)]
-enum Halt {
+pub enum Halt {
     Stopped { met: Word, by: Word },
     Numbers(Counter),
 }
@@ -44,15 +45,16 @@ enum Hold {
 
 /// The references met in one word: one install may be completed in it, and one exchange helped.
 #[derive(Default)]
-struct Met {
+pub struct Met {
     install: Option<Word>,
     exchange: Option<Word>,
 }
 
-/// The changes of an operation, read from its descriptor.
+/// The changes of an operation and the number of its visits, read from its descriptor.
 struct Script {
     list: [Change; MOST_CHANGES],
     count: usize,
+    visits: usize,
     status: Status,
 }
 
@@ -69,7 +71,7 @@ impl<V: Variant> Pass<'_, V> {
     }
 
     // Completes or helps what stands in a word, once of each kind.
-    fn make_way(&mut self, met: &mut Met, reference: Word, links: Option<&mut u32>) -> Result<(), Halt> {
+    pub fn make_way(&mut self, met: &mut Met, reference: Word, links: Option<&mut u32>) -> Result<(), Halt> {
         let place = match reference {
             Word::Install(_) => &mut met.install,
             _ => &mut met.exchange,
@@ -121,9 +123,9 @@ impl<V: Variant> Pass<'_, V> {
 
     fn help_within(&mut self, op: Ref, links: &mut u32) -> Result<Helped, Halt> {
         self.helps += 1;
-        let Script { list, count, mut status } = self.read_descriptor(op);
+        let Script { list, count, visits, mut status } = self.read_descriptor(op);
         if status.is_undecided(op) {
-            status = self.carry_out_met(op, &list[..count], links)?;
+            status = self.carry_out_met(op, &list[..count], visits, links)?;
         }
         self.clear_met(op, &list[..count], status);
         Ok(if status.number == op.number { Helped::Decided } else { Helped::Gone })
@@ -143,6 +145,7 @@ impl<V: Variant> Pass<'_, V> {
         let early = self.seat.has(Fault::StatusFirst).then(|| self.status_of(op));
         let at = self.seat.board.own(op.seat) + DESCRIPTOR;
         let count = (self.seat.load(at + 1) as usize).min(MOST_CHANGES);
+        let visits = self.seat.load(at + 2) as usize;
         let mut list = [Change::default(); MOST_CHANGES];
         for (i, change) in list[..count].iter_mut().enumerate() {
             change.word = self.seat.load(at + 3 + 3 * i) as usize;
@@ -150,12 +153,23 @@ impl<V: Variant> Pass<'_, V> {
             change.new = self.seat.load(at + 5 + 3 * i);
         }
         let status = early.unwrap_or_else(|| self.status_of(op));
-        Script { list, count, status }
+        Script { list, count, visits, status }
+    }
+
+    // A visit of the own operation, or of another's, with its status after that.
+    fn visit_of(&mut self, op: Ref, i: usize) -> Result<Visit, Status> {
+        if op.seat == self.seat.number {
+            return Ok(self.visits[i]);
+        }
+        let at = self.seat.board.own(op.seat) + DESCRIPTOR + self.seat.board.first_visit() + 2 * i;
+        let (node, version) = (self.seat.load(at) as usize, self.seat.load(at + 1));
+        let status = self.status_of(op);
+        if status.is_undecided(op) { Ok(Visit { node, version }) } else { Err(status) }
     }
 
     // A helper that was stopped looks first whether the operation was decided meanwhile. A refused draw withdraws it.
-    fn carry_out_met(&mut self, op: Ref, changes: &[Change], links: &mut u32) -> Result<Status, Halt> {
-        let halt = match self.carry_out(op, changes, Some(links)) {
+    fn carry_out_met(&mut self, op: Ref, changes: &[Change], visits: usize, links: &mut u32) -> Result<Status, Halt> {
+        let halt = match self.carry_out(op, changes, visits, Some(links)) {
             Ok(status) => return Ok(status),
             Err(halt) => halt,
         };
@@ -173,8 +187,8 @@ impl<V: Variant> Pass<'_, V> {
         }
     }
 
-    // Puts the reference in all words, draws a stamp, and decides. The answer is the status that stands then.
-    fn carry_out(&mut self, op: Ref, changes: &[Change], mut links: Option<&mut u32>) -> Result<Status, Halt> {
+    // Puts the reference in all words, draws a stamp, checks the visits, and decides. The answer is the status that stands then.
+    fn carry_out(&mut self, op: Ref, changes: &[Change], visits: usize, mut links: Option<&mut u32>) -> Result<Status, Halt> {
         let mut early = None;
         for (i, change) in changes.iter().enumerate() {
             if self.seat.has(Fault::DrawsEarly) && i + 1 == changes.len() {
@@ -191,7 +205,41 @@ impl<V: Variant> Pass<'_, V> {
             Some(stamp) => stamp,
             None => self.draw()?,
         };
+        for i in 0..visits {
+            let visit = match self.visit_of(op, i) {
+                Ok(visit) => visit,
+                Err(status) => return Ok(status),
+            };
+            match self.check(op, changes, visit)? {
+                None => {}
+                Some(Stage::Idle) => return Ok(self.status_of(op)),
+                Some(failed) => return Ok(self.decide(op, failed)),
+            }
+        }
         Ok(self.decide(op, Stage::Succeeded { stamp }))
+    }
+
+    // Why a visit doesn't pass its check, if it doesn't; idle where the operation is over.
+    fn check(&mut self, op: Ref, changes: &[Change], visit: Visit) -> Result<Option<Stage>, Halt> {
+        let (node, word) = (visit.node as u32, 8 * visit.node);
+        if let Some(change) = changes.iter().find(|change| change.word == word) {
+            return Ok((change.old != visit.version).then_some(Stage::Changed { node }));
+        }
+        let mut first = None;
+        loop {
+            match Word::of(self.seat.load(word)) {
+                Word::Plain(version) => return Ok((version > visit.version).then_some(Stage::Changed { node })),
+                Word::Exchange(Ref { seat, .. }) if seat == op.seat => return Ok(Some(Stage::Idle)),
+                Word::Exchange(Ref { seat, .. }) => return Ok(Some(Stage::Locked { node, seat })),
+                Word::Install(install) => {
+                    let by = Word::Install(install);
+                    if let Some(met) = first.replace(by) {
+                        return Err(Halt::Stopped { met, by });
+                    }
+                    self.complete(install);
+                }
+            }
+        }
     }
 
     fn hold(&mut self, op: Ref, change: Change, mut links: Option<&mut u32>) -> Result<Hold, Halt> {
@@ -207,7 +255,7 @@ impl<V: Variant> Pass<'_, V> {
         }
     }
 
-    fn draw(&mut self) -> Result<u64, Halt> {
+    pub fn draw(&mut self) -> Result<u64, Halt> {
         if self.seat.load(CLOCK) >= LAST_STAMP {
             return Err(Halt::Numbers(Counter::Stamp));
         }
@@ -248,7 +296,7 @@ impl<V: Variant> Pass<'_, V> {
     pub fn finish(&mut self) -> Verdict {
         let op = self.operation();
         let changes = std::mem::take(&mut self.changes);
-        let (stage, halt) = match self.carry_out(op, &changes, None) {
+        let (stage, halt) = match self.carry_out(op, &changes, self.checked, None) {
             Ok(status) => (status.stage, None),
             Err(halt) => (self.decide(op, Stage::Withdrawn).stage, Some(halt)),
         };
@@ -284,6 +332,7 @@ fn verdict(stage: Stage, halt: Option<Halt>) -> Verdict {
     match (stage, halt) {
         (Stage::Succeeded { stamp }, _) => Verdict::Won { stamp },
         (Stage::Changed { node }, _) => Verdict::Changed { node },
+        (Stage::Locked { node, seat }, _) => Verdict::Locked { node, seat },
         (_, Some(Halt::Stopped { met, by })) => Verdict::Blocked { first: met, second: by },
         (_, Some(Halt::Numbers(counter))) => Verdict::Numbers(counter),
         // By a helper whose draw was refused: nobody else withdraws it.

@@ -14,6 +14,13 @@ pub struct Change {
     pub new: u64,
 }
 
+/// A node that was visited, and its version then.
+#[derive(Clone, Copy, Debug)]
+pub struct Visit {
+    pub node: usize,
+    pub version: u64,
+}
+
 /// A counter that stands at its last value.
 #[derive(Clone, Copy, Debug, PartialEq, Eq)]
 pub enum Counter {
@@ -36,6 +43,9 @@ pub struct Pass<'b, V: Variant> {
     attempt: u64,
     install: u64,
     pub changes: Vec<Change>,
+    /// What the operation visited, and how many of that the published exchange visits.
+    pub visits: Vec<Visit>,
+    pub checked: usize,
     /// The clock before the last publication, and after the last clearing.
     pub published_at: u64,
     pub cleared_at: u64,
@@ -47,8 +57,9 @@ pub struct Pass<'b, V: Variant> {
 impl<'b, V: Variant> Pass<'b, V> {
     pub fn new(board: &'b Board, seat: u32) -> Self {
         let changes = Vec::with_capacity(MOST_CHANGES);
+        let visits = Vec::with_capacity(board.most_visits());
         let seat = Seat::new(board, seat);
-        Pass { seat, attempt: 0, install: 0, changes, published_at: 0, cleared_at: 0, helps: 0, completions: 0 }
+        Pass { seat, attempt: 0, install: 0, changes, visits, checked: 0, published_at: 0, cleared_at: 0, helps: 0, completions: 0 }
     }
 
     /// Lists one more word for the next exchange.
@@ -59,6 +70,12 @@ impl<'b, V: Variant> Pass<'b, V> {
 
     /// Publishes the listed words, by rising address.
     pub fn publish(&mut self) -> Result<(), Counter> {
+        self.publish_with(0)
+    }
+
+    /// The same with so many of the visits, the first ones.
+    pub fn publish_with(&mut self, visits: usize) -> Result<(), Counter> {
+        self.checked = visits;
         if self.attempt == LAST_ATTEMPT {
             self.changes.clear();
             return Err(Counter::Attempt);
@@ -71,10 +88,11 @@ impl<'b, V: Variant> Pass<'b, V> {
         Ok(())
     }
 
-    // The mode, which is 0, the numbers of changes and of visits, and the changes.
+    // The mode, which is 1 where there are visits, the numbers of changes and of visits, the changes, and the visits.
     fn write_descriptor(&mut self) {
         let at = self.own() + DESCRIPTOR;
-        for (i, word) in [0, self.changes.len() as u64, 0].into_iter().enumerate() {
+        let visits = self.checked as u64;
+        for (i, word) in [visits.min(1), self.changes.len() as u64, visits].into_iter().enumerate() {
             self.seat.store(at + i, word);
         }
         for i in 0..self.changes.len() {
@@ -82,6 +100,12 @@ impl<'b, V: Variant> Pass<'b, V> {
             self.seat.store(at + 3 + 3 * i, word as u64);
             self.seat.store(at + 4 + 3 * i, old);
             self.seat.store(at + 5 + 3 * i, new);
+        }
+        let at = at + self.seat.board.first_visit();
+        for i in 0..self.checked {
+            let Visit { node, version } = self.visits[i];
+            self.seat.store(at + 2 * i, node as u64);
+            self.seat.store(at + 2 * i + 1, version);
         }
     }
 

@@ -41,7 +41,7 @@ impl Ends {
         }
         *match verdict {
             Verdict::Won { .. } => &mut self.won,
-            Verdict::Changed { .. } => &mut self.changed,
+            Verdict::Changed { .. } | Verdict::Locked { .. } => &mut self.changed,
             Verdict::Blocked { .. } => &mut self.blocked,
             Verdict::Withdrawn => &mut self.withdrawn,
             Verdict::Numbers(_) => &mut self.numbers,

@@ -1,0 +1,4 @@
+pub mod Adding
+pub mod Crews
+pub mod Flat
+pub mod RaceWords
