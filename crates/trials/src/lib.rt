@@ -42,8 +42,6 @@ mod repair_steps;
 #[cfg(test)]
 mod replays;
 #[cfg(test)]
-mod reservations;
-#[cfg(test)]
 mod scripts;
 #[cfg(test)]
 mod served_inputs;

@@ -1,5 +1,5 @@
 //! Two guests who want one seat.
-use examples::{guest_of, reserve};
+use crate::{guest_of, reserve};
 use pc_model::Memory;
 use pc_plain::{PlainCells, pairs};
 use std::alloc::Global;
