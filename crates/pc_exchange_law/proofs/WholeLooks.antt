@@ -5,6 +5,7 @@ use Rattle.std.proofs.lemmas.Bool.{cases_lt}
 use mathlib.Core.Option.{none}
 use Rattle.atomic_table.specs.Table.{step, Allows}
 use Rattle.pc_model.specs.declared.cell.Field.{Field}
+use Rattle.pc_model.specs.Exchanges.{Exchange as PathExchange}
 use Rattle.pc_model.specs.Forms.{Form, IsSound}
 use Rattle.pc_words.specs.declared.word.WordKind.{WordKind}
 use Rattle.pc_words.specs.declared.word.WordKind.TheVariants.{Plain}
@@ -22,7 +23,8 @@ use Rattle.pc_rule_law.proofs.DescriptorLooks.{word_looks}
 use Rattle.pc_rule_law.proofs.InstallLooks.{install_looks}
 use Rattle.pc_rule_law.proofs.StatusLooks.{status_looks}
 use Rattle.pc_protocol.specs.Histories.{withdrawn, ended, aborted, History}
-use Rattle.pc_protocol.specs.Notes.{verdict, IsTrueNote}
+use Rattle.pc_protocol.specs.Notes.{published, verdict, outdated, IsTrueNote}
+use Rattle.pc_protocol.specs.Seeing.{Covers}
 use Rattle.pc_exchange_law.proofs.SeenStamps.{seen_below}
 use Rattle.pc_exchange_law.specs.Knowing.{IsAboveSeen}
 use Rattle.pc_exchange_law.specs.Ties.{code, last_stamp}
@@ -72,6 +74,9 @@ module _ (form : Form) (z : Size) where
               late = e.3;
               ended = λ i has. (board_tells b t h k.world.rule k.world.tied).ran_out i
                   ((known_here form z b t h late views k id x at live).told (verdict i (aborted ended)) has);
+              covers = λ i n c o past there. let told = (known_here form z b t h late views k id x at live).told in
+                  let cause = told (outdated i n) past in
+                  (cause.1.0, subst (λ (d : PathExchange). Covers d n cause.1.0) (told (published i o c) there).1 cause.1.1);
               above = subst (IsAboveSeen x.knows.told) k.world.tied.clock
                   (seen_below h k.world.rule x.knows.told (known_here form z b t h late views k id x at live).told);
             },

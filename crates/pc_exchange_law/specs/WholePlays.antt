@@ -5,7 +5,7 @@ use Rattle.atomic_table.specs.Table.{Me}
 use Rattle.pc_model.specs.declared.cell.Field.{Field}
 use Rattle.pc_model.specs.declared.cell.Field.TheVariants.{Version}
 use Rattle.pc_model.specs.Cells.{IsEven}
-use Rattle.pc_model.specs.Exchanges.{Visited}
+use Rattle.pc_model.specs.Exchanges.{Visited, Exchange as PathExchange}
 use Rattle.pc_words.specs.declared.word.WordKind.{WordKind}
 use Rattle.pc_words.specs.declared.word.WordKind.TheVariants.{Plain, Install, Exchange}
 use Rattle.pc_words.specs.declared.status.Stage.{Stage as StatusStage}
@@ -21,7 +21,8 @@ use Rattle.pc_rule_law.specs.Views.{Note, decided_below, clean, removed, View, w
 use Rattle.pc_rule_law.specs.Plays.{IsNotedSince, IsLater, IsWell, Told, SameSeat, found, after_store, InstallLoaded, ClockLoaded}
 use Rattle.pc_rule_law.specs.Plays.{DescriptorLoaded as ViewLoaded, StatusLoaded, InstallTried, InstallTaken, after_write, after_publish}
 use Rattle.pc_protocol.specs.Histories.{withdrawn, ended, changed, locked, Stage, absent, undecided, committed, aborted}
-use Rattle.pc_protocol.specs.Notes.{value, by, clock_was, visited, looked, drew, verdict, rival, in_run, outdated}
+use Rattle.pc_protocol.specs.Notes.{value, by, clock_was, visited, looked, published, drew, verdict, rival, in_run, outdated}
+use Rattle.pc_protocol.specs.Seeing.{Covers}
 use Rattle.pc_exchange_law.specs.Attempts.{word_in, calm, calm_but, KnowsWord, KnowsEntry, KnowsVisit}
 use Rattle.pc_exchange_law.specs.Ties.{code, last_stamp, exchange_of}
 use Rattle.pc_exchange_law.specs.ExchangeConditions.{KnowsCleared}
@@ -49,6 +50,8 @@ pub record ClockSeen (path : Path) (k : PassKnows) (r : ℕ) (k' : PassKnows) : 
   pub ended : (x : ℕ) → Has k.told (verdict x (aborted ended)) → last_stamp ≤ r
   -- it is above each stamp that was seen
   pub above : IsAboveSeen k.told r
+  -- an attempt that is outdated at a node covers a version of it
+  pub covers : (x n c : ℕ) (e : PathExchange) → Has k.told (outdated x n) → Has k.told (published x e c) → (v : ℕ) × Covers e n v
 
 abbrev pub SeesClock : Whole → ℕ → Whole → Place → Type 0
 SeesClock x r y at_clock = ClockLoaded x.view r y.view × ClockSeen x.path x.knows r y.knows × (y.aim ≡ x.aim) × (y.path ≡ x.path)

@@ -1,15 +1,19 @@
 -- What a pass knows of its own exchange as it ends it.
 use Rattle.std.proofs.Common.{◌≡◌, ℕ, ◌+◌, ◌-◌, ◌<◌, ◌≤◌, List, [], ◌∷◌, length, map, refl, sym, ap, ap₂, ◌∙◌, subst, inl, inr, ⊎_elim, arith}
-use Rattle.pc_model.specs.Exchanges.{Visited}
+use Rattle.pc_model.specs.Exchanges.{Visited, Exchange}
 use Rattle.pc_history.specs.Footprints.{IsAmong}
 use Rattle.pc_words.specs.declared.status.Stage.{Stage as StatusStage}
 use Rattle.pc_words.specs.declared.status.Stage.TheVariants.{Idle, Undecided, Succeeded, Withdrawn, Changed, Locked}
 use Rattle.pc_words.specs.declared.status.Status.{Status}
+use Rattle.pc_rule_law.specs.Board.{place_number}
 use Rattle.pc_rule_law.specs.Past.{Has}
+use Rattle.pc_rule_law.proofs.Lists.{below_length}
 use Rattle.pc_rule_law.specs.Stages.{IsIdle, IsOpen, decided_from, decided_by}
 use Rattle.pc_rule_law.specs.Views.{View, decided_below}
 use Rattle.pc_protocol.specs.Histories.{Cause, withdrawn, ended, changed, locked, Stage, committed, aborted}
 use Rattle.pc_protocol.specs.Notes.{Note, clock_was, outdated, published, verdict}
+use Rattle.pc_protocol.specs.Seeing.{Covers}
+use Rattle.pc_exchange_law.proofs.ChangeLists.{among_has}
 use Rattle.pc_exchange_law.specs.Ties.{code, exchange_of, last_stamp, IsStageOf}
 use Rattle.pc_exchange_law.specs.WholePlays.{after_clear}
 use Rattle.pc_exchange_law.specs.Wholes.{Whole}
@@ -22,7 +26,7 @@ use Rattle.pc_dcss.proofs.Staying.{adds_then}
 use Rattle.pc_kcas.specs.declared.verdict.Verdict.{Verdict}
 use Rattle.pc_kcas.specs.declared.verdict.Verdict.TheVariants.{Won, Changed as ChangedSo, Locked as LockedSo, Blocked, Numbers}
 use Rattle.pc_kcas.specs.Clearing.{took_effect, says_success, KnowsOutcome, HasCleared}
-use Rattle.pc_kcas.specs.Exchanges.{visit_count, HasPublished, KnowsOwn, attempt_with}
+use Rattle.pc_kcas.specs.Exchanges.{visit_count, CoversNode, HasPublished, KnowsOwn, attempt_with}
 use Rattle.pc_kcas.specs.Settling.{HasLearnt, HasLearntOrWithdrawn, OwnsPublished, StandsAt, IsSettled, TellsFailure}
 use Rattle.pc_kcas.specs.Verdicts.{KnowsFailed, KnowsRival, KnowsWhy, HasEnded, EndedSo, IsReason, answer_by}
 
@@ -83,7 +87,8 @@ ended_withdrawn x y z l e = record {
 
 -- how an exchange ended that was decided as a status says
 module _ (y z : Whole) (places : List Place) (s : Status) (clock : ℕ) (has : HasPublished y.view places) (why : KnowsWhy y s) (ended' : HasEnded y z)
-    (was : Has z.knows.told (clock_was clock)) (last : (x : ℕ) → Has y.knows.told (verdict x (aborted ended)) → last_stamp ≤ clock) (X : Ref → Ref → Type 0) where
+    (was : Has z.knows.told (clock_was clock)) (last : (x : ℕ) → Has y.knows.told (verdict x (aborted ended)) → last_stamp ≤ clock)
+    (covers : (x n c : ℕ) (e : Exchange) → Has y.knows.told (outdated x n) → Has y.knows.told (published x e c) → (v : ℕ) × Covers e n v) (X : Ref → Ref → Type 0) where
   at_seat : y.view.seat ≡ z.view.seat
   at_seat = sym (ap (λ (v : View). v.seat) ended'.view)
 
@@ -95,6 +100,10 @@ module _ (y z : Whole) (places : List Place) (s : Status) (clock : ℕ) (has : H
   unfolding at_seat at_number
   told_still note h = subst (λ (p : ℕ). Has z.knows.told (note (code p z.view.attempt.number))) at_seat
       (subst (λ (a : ℕ). Has z.knows.told (note (code y.view.seat a))) at_number (ended'.told _ h))
+
+  -- the descriptor stays
+  same_cover : {n : ℕ} → CoversNode y.view n → CoversNode (record (after_clear y.view) { notes = z.view.notes }) n
+  same_cover h = h
 
   own_status : (s.number ≡ y.view.attempt.number) × (IsIdle s.stage → ⊥)
   unfolding owns
@@ -110,7 +119,7 @@ module _ (y z : Whole) (places : List Place) (s : Status) (clock : ℕ) (has : H
   failed_by st cause e h = subst (λ (t : Stage). Has z.knows.told (verdict (code z.view.seat z.view.attempt.number) t)) e (own_verdict st h)
 
   so_at : (st : StatusStage) → s.stage ≡ st → EndedSo z z.view.attempt.number (answer_by st clock) X
-  unfolding told_still own_status own_verdict failed_by
+  unfolding told_still own_status own_verdict failed_by same_cover
   so_at Idle is = absurd (own_status.1 (subst IsIdle (sym is) tt))
   so_at Undecided is = absurd (why.settled.over own_status.0 (subst IsOpen (sym is) tt))
   so_at (Succeeded t) is = let v = why.settled.stands.decided own_status.1 (why.settled.over own_status.0) in
@@ -120,6 +129,7 @@ module _ (y z : Whole) (places : List Place) (s : Status) (clock : ℕ) (has : H
   so_at (Changed n) is = let v = why.settled.stands.decided own_status.1 (why.settled.over own_status.0) in (
     failed_by v.0 (changed n) (subst (λ (st : StatusStage). IsStageOf st v.0) is v.1) v.2,
     told_still (λ x. outdated x n) (why.changed n is),
+    (let e = why.own in let v = covers _ n e.1 e.0 (why.changed n is) e.2 in subst (λ (u : View). CoversNode u n) (sym ended'.view) (same_cover (e.3 n v.0 v.1))),
   )
   so_at (Locked n q) is = let v = why.settled.stands.decided own_status.1 (why.settled.over own_status.0) in
       let r = why.locked n q is in let back : q ≡ (q + 1) - 1 = omega arith in (
@@ -160,6 +170,16 @@ pub own_noted : (x z : Whole) (st : Stage) → HasEnded x z → Has x.knows.told
 own_noted x z st e h = subst (λ (p : ℕ). Has z.knows.told (verdict (code p z.view.attempt.number) st)) (sym (ap (λ (v : View). v.seat) e.view))
     (subst (λ (a : ℕ). Has z.knows.told (verdict (code x.view.seat a) st)) (sym (ap (λ (v : View). v.attempt.number) e.view)) (e.told _ h))
 
+-- what the exchange covers is covered by its descriptor
+covers_node : (x : Whole) (places : List Place) (own : KnowsOwn x places) (n v : ℕ) → Covers (exchange_of (attempt_with 0 own.visits own.reads (map change_of places))) n v
+    → CoversNode x.view n
+covers_node x places own n v (inl visits) = let h = among_has own.visits visits.visit visits.among in let d = own.describes.each_visit h.0 visits.visit h.1 in
+    let lt = below_length own.visits h.0 visits.visit h.1 in
+    inr (h.0, subst (λ (k : ℕ). h.0 < k) (sym own.describes.visits) lt, d.0 ∙ visits.node)
+covers_node x places own n v (inr changes) = let h = among_has (map change_of places) changes.change changes.among in
+    let d = own.describes.each_change h.0 changes.change h.1 in let lt = below_length (map change_of places) h.0 changes.change h.1 in
+    inl (h.0, subst (λ (k : ℕ). h.0 < k) (sym own.describes.changes) lt, d.0 ∙ ap₂ place_number changes.is_of.0 changes.is_of.1)
+
 -- a list with an element isn't empty
 some_among : (visits : List Visited) (u : Visited) → IsAmong u visits → 0 < length visits
 some_among [] u among = absurd among
@@ -168,13 +188,19 @@ some_among (v ∷ visits) u among = omega arith
 -- a pass knows why its own exchange was decided as a status says, which it found or put
 pub why_ended : (x y : Whole) (places : List Place) (p a : ℕ) (s : Status) → p ≡ x.view.seat → a ≡ x.view.attempt.number → HasPublished x.view places → KnowsOwn x places
     → AgreeOnAttempt x → HasLearnt x y → IsSettled y p a s → TellsFailure x y p s → KnowsWhy y s
-unfolding owns some_among
+unfolding owns some_among covers_node
 why_ended x y places p a s at is has own agree l settled fails =
     let v = l.view.same in let at_y : p ≡ y.view.seat = at ∙ sym (ap (λ (u : View). u.seat) v) in let is_y : a ≡ y.view.attempt.number = is ∙ sym (ap (λ (u : View). u.attempt.number) v) in
     let owned : OwnsPublished y.view = subst OwnsPublished (sym v) (owns x.view places has) in
     let number : s.number ≡ a = (settled.stands.own at_y is_y owned).0 in
     let codes : code p s.number ≡ code y.view.seat y.view.attempt.number = ap₂ (λ (q b : ℕ). code q b) at_y (number ∙ is_y) in
     let own_codes : code x.view.seat x.view.attempt.number ≡ code p s.number = ap₂ (λ (q b : ℕ). code q b) (sym at) (sym (number ∙ is)) in record {
+      own = (
+        exchange_of (attempt_with 0 own.visits own.reads (map change_of places)),
+        own.noted.0,
+        subst (λ (c : ℕ). Has y.knows.told (published c (exchange_of (attempt_with 0 own.visits own.reads (map change_of places))) own.noted.0)) (own_codes ∙ codes) (l.told _ own.noted.1),
+        λ n u covers. subst (λ (w : View). CoversNode w n) (sym v) (covers_node x places own n u covers),
+      );
       settled = subst (λ (q : ℕ). IsSettled y q y.view.attempt.number s) at_y (subst (λ (b : ℕ). IsSettled y p b s) is_y settled);
       changed = λ n e. subst (λ (c : ℕ). Has y.knows.told (outdated c n)) codes (fails.changed n e);
       locked = λ n q e. let r = fails.locked n q e in let e' = exchange_of (attempt_with 0 own.visits own.reads (map change_of places)) in
@@ -188,7 +214,7 @@ why_ended x y places p a s at is has own agree l settled fails =
               other = (λ same. r.other (same ∙ sym at_y));
               rival = r.rival;
             },
-            subst (λ (c : ℕ). 0 < c) (sym (ap visit_count v ∙ own.counted)) (some_among own.visits o.1.1.visit o.1.1.among),
+            subst (λ (c : ℕ). 0 < c) (sym (ap visit_count v ∙ own.describes.visits)) (some_among own.visits o.1.1.visit o.1.1.among),
           );
       ended = λ e. subst (λ (c : ℕ). Has y.knows.told (verdict c (aborted ended))) codes
           (fails.ended e at (number ∙ (is ∙ sym agree.number)) own.not_withdrawn);

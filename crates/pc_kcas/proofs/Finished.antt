@@ -1,14 +1,16 @@
 -- What its own pass holds and meets in the words of an exchange.
-use Rattle.std.proofs.Common.{◌≡◌, ℕ, ◌+◌, ◌-◌, ◌<◌, ◌≤◌, true, List, [], length, get_or, Option, Some, None, IfSome, IfNone, refl, sym, ap, ap₂, ◌∙◌, subst, inl, inr, ⊎_elim, arith}
+use Rattle.std.proofs.Common.{◌≡◌, ℕ, ◌+◌, ◌-◌, ◌*◌, ◌<◌, ◌≤◌, true, List, [], length, get_or, Option, Some, None, IfSome, IfNone, refl, sym, ap, ap₂, ◌∙◌, subst, inl, inr, ⊎_elim, arith}
 use mathlib.Core.Option.{some}
 use lib.ListN.{get_elem?}
 use Rattle.pc_model.specs.declared.cell.Field.TheVariants.{Version}
 use Rattle.pc_model.specs.declared.shape.Shape.{Ghosts}
 use Rattle.pc_rule_law.specs.Plays.{AddsNotes, IsNotedSince}
 use Rattle.pc_rule_law.specs.Conditions.{IsFree}
-use Rattle.pc_rule_law.specs.Past.{Has}
-use Rattle.pc_rule_law.specs.Views.{View, OwnAttempt, clean, held, removed}
+use Rattle.pc_rule_law.specs.Board.{Size}
+use Rattle.pc_rule_law.specs.Past.{Has, visits_begin}
+use Rattle.pc_rule_law.specs.Views.{View, OwnAttempt, clean, held, removed, word_in}
 use Rattle.pc_rule_law.proofs.Lists.{below_length, element_at}
+use Rattle.pc_exchange_law.specs.WholePlays.{after_clear}
 use Rattle.pc_exchange_law.specs.Wholes.{Whole}
 use Rattle.pc_rule.specs.declared.board.Pass.{Pass}
 use Rattle.pc_rule.specs.declared.opening.Place.{Place}
@@ -23,7 +25,7 @@ use Rattle.pc_kcas.specs.declared.obstacle.Obstacle.{Obstacle}
 use Rattle.pc_kcas.specs.declared.verdict.Verdict.{Verdict}
 use Rattle.pc_kcas.specs.declared.verdict.Verdict.TheVariants.{Won, Changed as ChangedSo, Locked as LockedSo, Blocked, Numbers}
 use Rattle.pc_kcas.specs.Clearing.{HoldsListed, IsCleanAt}
-use Rattle.pc_kcas.specs.Exchanges.{visit_count, IsPublished, IsHeldAt, own_exchange}
+use Rattle.pc_kcas.specs.Exchanges.{visit_count, CoversNode, IsPublished, IsHeldAt, own_exchange}
 use Rattle.pc_kcas.specs.Obstacles.{GoesOn, IsWordOf, HasFollowed, IsObstacle}
 use Rattle.pc_kcas.specs.Stops.{HasMetObstacle, HasMetAt, KnowsStopAt, AreInTheWay}
 use Rattle.pc_kcas.specs.Takings.{HoldsBelow}
@@ -84,6 +86,13 @@ module _ (y : Whole) (a : ℕ) (X : Ref → Ref → Type 0) where
   so_locked (LockedSo n by) so = (so.1, so.2)
   so_locked (Blocked first second) so = tt
   so_locked (Numbers n) so = tt
+
+  pub so_covered : (r : Verdict) → EndedSo y a r X → IfChanged r (CoversNode y.view)
+  so_covered (Won s) so = tt
+  so_covered (ChangedSo n) so = so.2
+  so_covered (LockedSo n by) so = tt
+  so_covered (Blocked first second) so = tt
+  so_covered (Numbers n) so = tt
 
   pub so_visits : (r : Verdict) → EndedSo y a r X → IfLocked r (λ n by. 0 < visit_count y.view)
   so_visits (Won s) so = tt
@@ -217,3 +226,16 @@ module _ {H : Type 0} {S : Ghosts H} where
       let number : (view r).attempt.number ≡ (view p).attempt.number = ap (λ (v : View). v.attempt.number) e.view ∙ ap (λ (t : OwnAttempt). t.number) goes.attempt.0 in
       subst (λ (s : ℕ). Has (view r).notes (clean s (view p).attempt.number x.node x.field)) (two.0.2 ∙ one.0.2)
       (subst (λ (a : ℕ). Has (view r).notes (clean (view r).seat a x.node x.field)) number (cleaned i (below_length (listed r) i x there) x there))
+
+-- the descriptor is as it was before
+pub covers_before : (v w : View) (y : Whole) (r : Verdict) → w.attempt ≡ v.attempt → w.size ≡ v.size → y.view ≡ record (after_clear w) { notes = y.view.notes }
+    → IfChanged r (CoversNode y.view) → IfChanged r (CoversNode v)
+covers_before v w y (Won s) attempt size is h = tt
+covers_before v w y (ChangedSo n) attempt size is h =
+    let words : y.view.attempt.words ≡ v.attempt.words = ap (λ (u : View). u.attempt.words) is ∙ ap (λ (a : OwnAttempt). a.words) attempt in
+    let slots : y.view.size.slots ≡ v.size.slots = ap (λ (u : View). u.size.slots) is ∙ ap (λ (z : Size). z.slots) size in
+    ⊎_elim (λ change. inl (change.0, subst (λ l. change.0 < word_in l 1) words change.1, ap (λ l. word_in l (3 + 3 * change.0)) (sym words) ∙ change.2))
+    (λ visit. inr (visit.0, subst (λ l. visit.0 < word_in l 2) words visit.1, ap₂ (λ l s. word_in l (visits_begin s + 2 * visit.0)) (sym words) (sym slots) ∙ visit.2)) h
+covers_before v w y (LockedSo n by) attempt size is h = tt
+covers_before v w y (Blocked first second) attempt size is h = tt
+covers_before v w y (Numbers n) attempt size is h = tt

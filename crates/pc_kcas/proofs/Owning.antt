@@ -26,7 +26,7 @@ use Rattle.pc_rule.specs.declared.board.Pass.{Pass}
 use Rattle.pc_rule.specs.declared.opening.Place.{Place}
 use Rattle.pc_rule.specs.declared.visit.Visit.{Visit}
 use Rattle.pc_dcss.specs.Installs.{KeepsAttempt}
-use Rattle.pc_kcas.specs.Exchanges.{visit_count, KnowsOwn, KnowsExchange, KnowsAbove, VisitsHeld, VisitsTo, IsPublished, attempt_with}
+use Rattle.pc_kcas.specs.Exchanges.{KnowsOwn, KnowsExchange, KnowsAbove, VisitsHeld, VisitsTo, IsPublished, attempt_with}
 use Rattle.pc_kcas.specs.Obstacles.{GoesOn}
 use Rattle.pc_kcas.proofs.Holding.{published_still}
 
@@ -74,13 +74,14 @@ own_exchange_noted x y mode visits reads places agree at told so by =
     subst (λ (k : PassKnows). Has k.told (published (code x.view.seat (x.knows.own.number + 1)) (exchange_of told.0) told.1)) (sym told.4) (0, refl) in
     (told.1, subst (Has y.knows.told) (ap₂ (λ (n : ℕ) (e : Exchange). published n e told.1) number same) there, told.6)
 
-pub own_published : (x y : Whole) (visits : List Visited) (reads : List Seen) (places : List Place) → KnowsPublished x y.knows
-    → visit_count y.view ≡ length visits → KnowsExchange y (exchange_of (attempt_with 0 visits reads (map change_of places))) → KnowsOwn y places
-own_published x y visits reads places told counted noted = record {
+pub own_published : (x y : Whole) (mode : ℕ) (visits : List Visited) (reads : List Seen) (places : List Place) → KnowsPublished x y.knows
+    → Describes y.view.size.slots (attempt_with mode visits reads (map change_of places)) (word_in y.view.attempt.words) → KnowsExchange y (exchange_of (attempt_with 0 visits reads (map change_of places))) → KnowsOwn y places
+own_published x y mode visits reads places told describes noted = record {
   not_withdrawn = ap (λ (k : PassKnows). k.own.withdrew) told.4;
+  mode = mode;
   visits = visits;
   reads = reads;
-  counted = counted;
+  describes = describes;
   noted = noted;
 }
 
@@ -102,15 +103,18 @@ told_published x y told n has = subst (λ (k : PassKnows). Has k.told n) (sym to
     (has_later (published (code x.view.seat (x.knows.own.number + 1)) (exchange_of told.0) told.1) x.knows.told n has)
 
 -- and it is known still
-pub own_still : (x y : Whole) (old new : List Place) → y.view.seat ≡ x.view.seat → y.view.attempt ≡ x.view.attempt → y.knows.own.withdrew ≡ x.knows.own.withdrew
+pub own_still : (x y : Whole) (old new : List Place) → y.view.size ≡ x.view.size → y.view.seat ≡ x.view.seat → y.view.attempt ≡ x.view.attempt → y.knows.own.withdrew ≡ x.knows.own.withdrew
     → ((n : Note) → Has x.knows.told n → Has y.knows.told n) → new ≡ old → KnowsOwn x old → KnowsOwn y new
-own_still x y old new seat attempt withdrew more is own =
+own_still x y old new size seat attempt withdrew more is own =
     let number : code x.view.seat x.view.attempt.number ≡ code y.view.seat y.view.attempt.number =
     ap₂ (λ (s n : ℕ). code s n) (sym seat) (sym (ap (λ (a : OwnAttempt). a.number) attempt)) in record {
       not_withdrawn = withdrew ∙ own.not_withdrawn;
       visits = own.visits;
       reads = own.reads;
-      counted = ap (λ (a : OwnAttempt). word_in a.words 2) attempt ∙ own.counted;
+      mode = own.mode;
+      describes = subst (λ (l : List Place). Describes y.view.size.slots (attempt_with own.mode own.visits own.reads (map change_of l)) (word_in y.view.attempt.words)) (sym is)
+          (subst (λ (z : Size). Describes z.slots (attempt_with own.mode own.visits own.reads (map change_of old)) (word_in y.view.attempt.words)) (sym size)
+          (subst (λ (a : OwnAttempt). Describes x.view.size.slots (attempt_with own.mode own.visits own.reads (map change_of old)) (word_in a.words)) (sym attempt) own.describes));
       noted = (
         own.noted.0,
         subst (λ (l : List Place). Has y.knows.told (published (code y.view.seat y.view.attempt.number) (exchange_of (attempt_with 0 own.visits own.reads (map change_of l))) own.noted.0)) (sym is)
@@ -130,13 +134,13 @@ module _ {H : Type 0} {S : Ghosts H} where
   pub published_known : (p q : Pass H S) → IsSamePass p q → KeepsAttempt (view p) (view q) → Learns (knows p) (knows q) → IsPublished p → IsPublished q
   published_known p q same keeps l has = let is = ap (λ v. v.items) same.1 in (
     published_still (view p) (view q) (listed p) (listed q) keeps same.0.1 is has.0,
-    own_still (whole p) (whole q) (listed p) (listed q) same.0.2 keeps.0 (ap (λ (o : OwnTried). o.withdrew) l.own) l.told is has.1,
+    own_still (whole p) (whole q) (listed p) (listed q) same.0.1 same.0.2 keeps.0 (ap (λ (o : OwnTried). o.withdrew) l.own) l.told is has.1,
     visits_still (view p) (view q) (visits p) (visits q) keeps.0 same.0.1 (ap (λ v. v.items) same.2.1) has.2,
   )
 
   pub published_goes : (p q : Pass H S) → IsSamePass p q → GoesOn (whole p) (whole q) → IsPublished p → IsPublished q
   published_goes p q same goes has = let is = ap (λ v. v.items) same.1 in (
     published_still (view p) (view q) (listed p) (listed q) goes.attempt same.0.1 is has.0,
-    own_still (whole p) (whole q) (listed p) (listed q) same.0.2 goes.attempt.0 (ap (λ (o : OwnTried). o.withdrew) goes.own) goes.told is has.1,
+    own_still (whole p) (whole q) (listed p) (listed q) same.0.1 same.0.2 goes.attempt.0 (ap (λ (o : OwnTried). o.withdrew) goes.own) goes.told is has.1,
     visits_still (view p) (view q) (visits p) (visits q) goes.attempt.0 same.0.1 (ap (λ v. v.items) same.2.1) has.2,
   )

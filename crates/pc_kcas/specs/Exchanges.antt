@@ -1,5 +1,5 @@
 -- What clauses say of an exchange of several words, from its list to its installs.
-use Rattle.std.specs.Prelude.{◌≡◌, ℕ, ◌+◌, ◌*◌, ◌-◌, ◌^◌, ◌<◌, ◌≤◌, ◌==◌, if◌then◌else◌, true, false, List, [], ◌∷◌, length, map}
+use Rattle.std.specs.Prelude.{◌≡◌, ◌⊎◌, ℕ, ◌+◌, ◌*◌, ◌-◌, ◌^◌, ◌<◌, ◌≤◌, ◌==◌, if◌then◌else◌, true, false, List, [], ◌∷◌, length, map}
 use Rattle.std.specs.List.{All}
 use Rattle.std.specs.List.Sorted.{IsPermutation}
 use mathlib.Core.Option.{some}
@@ -16,7 +16,7 @@ use Rattle.pc_exchange_law.specs.Paths.{Path, read_of}
 use Rattle.pc_exchange_law.specs.Ties.{code, exchange_of}
 use Rattle.pc_exchange_law.specs.Wholes.{Whole}
 use Rattle.pc_protocol.specs.Notes.{Note, clock_was, saw, published}
-use Rattle.pc_rule_law.specs.Board.{Size}
+use Rattle.pc_rule_law.specs.Board.{Size, place_number}
 use Rattle.pc_rule_law.specs.Openings.{attempt_of}
 use Rattle.pc_rule_law.specs.Past.{Has, Attempt, Describes, visits_begin}
 use Rattle.pc_rule_law.specs.Plays.{AddsNotes, IsNotedSince}
@@ -156,12 +156,18 @@ pub record HasPublished (v : View) (places : List Place) : Type 0 where
 abbrev pub visit_count : View → ℕ
 visit_count v = word_in v.attempt.words 2
 
+-- the last attempt changes the version of a node, or visits the node, by its descriptor
+abbrev pub CoversNode : View → ℕ → Type 0
+CoversNode v n = ((i : ℕ) × (i < word_in v.attempt.words 1) × (word_in v.attempt.words (3 + 3 * i) ≡ place_number n Version))
+    ⊎ ((i : ℕ) × (i < visit_count v) × (word_in v.attempt.words (visits_begin v.size.slots + 2 * i) ≡ n))
+
 -- the pass didn't withdraw its last attempt of its own accord, and has noted that it is the exchange of these changes
 pub record KnowsOwn (x : Whole) (places : List Place) : Type 0 where
   pub not_withdrawn : x.knows.own.withdrew ≡ false
+  pub mode : ℕ
   pub visits : List Visited
   pub reads : List Seen
-  pub counted : visit_count x.view ≡ length visits
+  pub describes : Describes x.view.size.slots (attempt_with mode visits reads (map change_of places)) (word_in x.view.attempt.words)
   pub noted : (c : ℕ) × Has x.knows.told (published (code x.view.seat x.view.attempt.number) (exchange_of (attempt_with 0 visits reads (map change_of places))) c)
 
 -- the pass has noted that its last attempt is this exchange

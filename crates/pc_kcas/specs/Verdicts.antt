@@ -14,7 +14,7 @@ use Rattle.pc_rule_law.specs.Plays.{AddsNotes, IsNotedSince}
 use Rattle.pc_rule_law.specs.Views.{View}
 use Rattle.pc_protocol.specs.Histories.{Cause, withdrawn, ended, changed, locked, committed, aborted}
 use Rattle.pc_protocol.specs.Notes.{Note, clock_was, outdated, published, rival, verdict}
-use Rattle.pc_protocol.specs.Seeing.{Visits}
+use Rattle.pc_protocol.specs.Seeing.{Visits, Covers}
 use Rattle.pc_exchange_law.specs.Attempts.{AttemptNote, KnowsWord, KnowsEntry, KnowsVisit}
 use Rattle.pc_exchange_law.specs.Ties.{code, last_stamp}
 use Rattle.pc_exchange_law.specs.WholePlays.{after_clear}
@@ -23,7 +23,7 @@ use Rattle.pc_rule.specs.declared.board.Pass.{Pass}
 use Rattle.pc_rule.specs.declared.refs.Ref.{Ref}
 use Rattle.pc_rule.specs.Passes.{whole, view}
 use Rattle.pc_dcss.specs.Installs.{met_note}
-use Rattle.pc_kcas.specs.Exchanges.{own_exchange, visit_count}
+use Rattle.pc_kcas.specs.Exchanges.{own_exchange, visit_count, CoversNode}
 use Rattle.pc_kcas.specs.Helping.{IsStoppedBy}
 use Rattle.pc_kcas.specs.Obstacles.{GoesOn, IsNotOwn, IsStuckAt}
 use Rattle.pc_kcas.specs.Stops.{AreInTheWay}
@@ -55,9 +55,10 @@ pub record KnowsRival (y : Whole) (a n by : ℕ) : Type 0 where
   pub other : by ≢ y.view.seat
   pub rival : Has y.knows.told (rival by n clock)
 
--- the pass knows why its last attempt was decided as this status says
+-- the pass knows what its last attempt covers, and why it was decided as this status says
 pub record KnowsWhy (y : Whole) (s : Status) : Type 0 where
   pub settled : IsSettled y y.view.seat y.view.attempt.number s
+  pub own : (e : Exchange) × (c : ℕ) × Has y.knows.told (published (code y.view.seat y.view.attempt.number) e c) × ((n v : ℕ) → Covers e n v → CoversNode y.view n)
   pub changed : (n : ℕ) → s.stage ≡ ChangedNode n → KnowsChanged y y.view.attempt.number n
   pub locked : (n q : ℕ) → s.stage ≡ LockedNode n q → KnowsRival y y.view.attempt.number n q × (0 < visit_count y.view)
   pub ended : s.stage ≡ Withdrawn → Has y.knows.told (verdict (code y.view.seat y.view.attempt.number) (aborted ended))
@@ -141,7 +142,7 @@ KnowsLost y a (OutOfNumbers n) = KnowsFailed y a withdrawn ⊎ KnowsFailed y a e
 -- the pass knows that its exchange with this number ended so; where two references stood in the way, X holds of them
 abbrev pub EndedSo : Whole → ℕ → Verdict → (Ref → Ref → Type 0) → Type 0
 EndedSo y a (Won s) X = KnowsWon y a s
-EndedSo y a (Changed n) X = KnowsLost y a (Changed n) × KnowsChanged y a n
+EndedSo y a (Changed n) X = KnowsLost y a (Changed n) × KnowsChanged y a n × CoversNode y.view n
 EndedSo y a (Locked n by) X = KnowsLost y a (Locked n by) × (1 ≤ by) × KnowsRival y a n (by - 1) × (0 < visit_count y.view)
 EndedSo y a (Blocked first second) X = KnowsLost y a (Blocked first second) × X first second
 EndedSo y a (OutOfNumbers n) X = KnowsLost y a (OutOfNumbers n) × IsAtLast y n

@@ -2,12 +2,14 @@
 //! took effect and else the old one. No word can get the reference again: an install that may put it there is completed. Any pass
 //! may clear words; the exchange's own pass then makes its status idle.
 ghost use Rattle.std.specs.Prelude.{◌≡◌, ◌≢◌, ◌<◌, ◌≤◌, ℕ, true, false, length, if◌then◌else◌};
+ghost use Rattle.pc_model.specs.Exchanges.{Exchange};
 ghost use Rattle.pc_words.specs.Words.{kind, IsWord};
 ghost use Rattle.pc_words.specs.declared.word.WordKind.TheVariants.{Install};
 ghost use Rattle.pc_rule_law.specs.Past.{Has};
 ghost use Rattle.pc_rule_law.specs.Views.{clean, removed, IsAttempt};
 ghost use Rattle.pc_protocol.specs.Histories.{aborted, ended};
-ghost use Rattle.pc_protocol.specs.Notes.{clock_was, verdict};
+ghost use Rattle.pc_protocol.specs.Notes.{clock_was, outdated, published, verdict};
+ghost use Rattle.pc_protocol.specs.Seeing.{Covers};
 ghost use Rattle.pc_exchange_law.specs.Ties.{last_stamp};
 ghost use Rattle.pc_rule.specs.Listed.{FitsWord};
 ghost use Rattle.pc_rule.specs.Passes.{whole, view, knows, listed, board_size, IsPassOf, IsSamePass};
@@ -129,6 +131,7 @@ pub(crate) fn clear<H: Shape>(board: &Board<H>, pass: &mut Pass<H>, won: bool) -
     ensures cleared { HasCleared (whole pass.old) (whole pass.new) }
     ensures clean { (i : ℕ) → i < length (listed pass.new) → IsCleanAt pass.new i }
     ensures clock { Has (knows pass.new).told (clock_was result) }
+    ensures covers { (x n c : ℕ) (e : Exchange) → Has (knows pass.old).told (outdated x n) → Has (knows pass.old).told (published x e c) → (v : ℕ) × Covers e n v }
     ensures last { (x : ℕ) → Has (knows pass.old).told (verdict x (aborted ended)) → last_stamp ≤ result }
 {
     clear_listed(board, pass, won);

@@ -4,7 +4,7 @@ ghost use Rattle.pc_rule_law.specs.Conditions.{CanWrite, IsFree};
 ghost use Rattle.pc_rule.specs.Passes.{whole, view, listed, board_size, IsPassOf, IsSeatedAs, IsSamePass, KeepsPath};
 ghost use Rattle.pc_kcas.specs.Bounds.{most_in_help, most_in_end};
 ghost use Rattle.pc_kcas.specs.Clearing.{HoldsListed, LeavesClean};
-ghost use Rattle.pc_kcas.specs.Exchanges.{visit_count, IsPublished, IsHeldAt, own_exchange};
+ghost use Rattle.pc_kcas.specs.Exchanges.{visit_count, CoversNode, IsPublished, IsHeldAt, own_exchange};
 ghost use Rattle.pc_kcas.specs.Obstacles.{GoesOn};
 ghost use Rattle.pc_kcas.specs.Stops.{HasMetAt};
 ghost use Rattle.pc_kcas.specs.Takings.{HoldsBelow};
@@ -65,6 +65,37 @@ fn hold_listed<H: Shape>(board: &Board<H>, pass: &mut Pass<H>) -> Option<Stop>
     None
 }
 
+/// Ends the pass's published exchange as `finish` does, but keeps its list.
+pub fn finish_listed<H: Shape>(board: &Board<H>, pass: &mut Pass<H>) -> Verdict
+    requires pass { IsPassOf board.now pass.old }
+    requires published { IsPublished pass.old }
+    requires free { IsFree (view pass.old) }
+    ensures seated { IsSeatedAs pass.old pass.new }
+    ensures path { KeepsPath pass.old pass.new }
+    ensures open { CanWrite (view pass.new) }
+    ensures number { (view pass.new).attempt.number ≡ (view pass.old).attempt.number }
+    ensures same { pass.new.listed ≡ pass.old.listed }
+    ensures free { IsFree (view pass.new) }
+    ensures kept { KeepsAll (whole pass.old) (whole pass.new) }
+    ensures clean { LeavesClean pass.old pass.new }
+
+    // How it ended.
+    ensures won { IfWon result (KnowsWon (whole pass.new) (view pass.new).attempt.number) }
+    ensures lost { KnowsLost (whole pass.new) (view pass.new).attempt.number result }
+    ensures changed { IfChanged result (KnowsChanged (whole pass.new) (view pass.new).attempt.number) }
+    ensures locked { IfLocked result (λ n by. (1 ≤ by) × KnowsRival (whole pass.new) (view pass.new).attempt.number n (by - 1)) }
+    ensures covered { IfChanged result (CoversNode (view pass.old)) }
+    ensures visits { IfLocked result (λ n by. 0 < visit_count (view pass.old)) }
+    ensures blocked { IfBlocked result (WasBlocked (board_size board.now).seats pass.old pass.new) }
+    ensures numbers { IfNumbers result (IsAtLast (whole pass.new)) }
+
+    // The most installs that it makes.
+    ensures bounded { (view pass.new).install.number ≤ (view pass.old).install.number + most_in_end (board_size board.now) (length (listed pass.old)) }
+{
+    let stopped = hold_listed(board, pass);
+    end_at(board, pass, stopped)
+}
+
 /// Ends the pass's published exchange, and drops its list. Each of its words is given its reference, in the order of their numbers:
 /// in a word at most one install of another is completed and one exchange of another is helped, so the call ends whatever other
 /// passes do. Then the exchange is decided: it takes effect where all its words hold its reference, and no other pass decided it
@@ -89,6 +120,7 @@ pub fn finish<H: Shape>(board: &Board<H>, pass: &mut Pass<H>) -> Verdict
     ensures lost { KnowsLost (whole pass.new) (view pass.new).attempt.number result }
     ensures changed { IfChanged result (KnowsChanged (whole pass.new) (view pass.new).attempt.number) }
     ensures locked { IfLocked result (λ n by. (1 ≤ by) × KnowsRival (whole pass.new) (view pass.new).attempt.number n (by - 1)) }
+    ensures covered { IfChanged result (CoversNode (view pass.old)) }
     ensures visits { IfLocked result (λ n by. 0 < visit_count (view pass.old)) }
     ensures blocked { IfBlocked result (WasBlocked (board_size board.now).seats pass.old pass.new) }
     ensures numbers { IfNumbers result (IsAtLast (whole pass.new)) }
@@ -96,8 +128,7 @@ pub fn finish<H: Shape>(board: &Board<H>, pass: &mut Pass<H>) -> Verdict
     // The most installs that it makes.
     ensures bounded { (view pass.new).install.number ≤ (view pass.old).install.number + most_in_end (board_size board.now) (length (listed pass.old)) }
 {
-    let stopped = hold_listed(board, pass);
-    let verdict = end_at(board, pass, stopped);
+    let verdict = finish_listed(board, pass);
     pass.drop_listed();
     verdict
 }

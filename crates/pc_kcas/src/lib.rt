@@ -33,7 +33,7 @@ mod taking;
 mod verdict;
 mod writing;
 
-pub use finishing::finish;
+pub use finishing::{finish, finish_listed};
 pub use helped::Helped;
 pub use helping::help;
 pub use installing::install_first;

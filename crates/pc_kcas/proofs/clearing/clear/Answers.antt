@@ -44,5 +44,8 @@ pub returns-clause-clock : goal.returns-clause-clock
 returns-clause-clock g c = let q = c.clear_listed.new.pass in let r = c.step_9-clock.new.pass in
     subst (λ (w : Whole). Has w.knows.told (clock_was c.step_9-clock.result)) (sym c.step_16.ensures.told) (clock_told (whole q) (whole r) c.step_9-clock.result c.step_9-clock.ensures.learnt)
 
+pub returns-clause-covers : goal.returns-clause-covers
+returns-clause-covers g c = λ x n b e past there. let l = c.clear_listed.ensures.learnt in c.step_9-clock.ensures.learnt.covers x n b e (l.told _ past) (l.told _ there)
+
 pub returns-clause-last : goal.returns-clause-last
 returns-clause-last g c = λ x h. c.step_9-clock.ensures.learnt.ended x (c.clear_listed.ensures.learnt.told _ h)

@@ -15,4 +15,4 @@ returns-clause-ended g c = cleared_ended (whole c.args.pass.now) (whole c.clear-
 pub returns-clause-so : goal.returns-clause-so
 returns-clause-so g c = let p = c.args.pass.now in let q = c.clear-clock.new.pass in let e = c.clear-clock.ensures in
     rw c.answer.ensures (ended_so (whole p) (whole q) (listed p) c.args.status c.clear-clock.result c.requires.published c.requires.why
-    (cleared_ended (whole p) (whole q) e.cleared) e.clock e.last (λ _ _. ⊥))
+    (cleared_ended (whole p) (whole q) e.cleared) e.clock e.last e.covers (λ _ _. ⊥))

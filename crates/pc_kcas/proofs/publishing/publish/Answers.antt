@@ -6,8 +6,8 @@ use Rattle.pc_protocol.specs.Notes.{Note, clock_was, saw}
 use Rattle.pc_exchange_law.specs.Passes.{PassKnows}
 use Rattle.pc_exchange_law.specs.Paths.{Path, read_of}
 use Rattle.pc_exchange_law.specs.Wholes.{Whole}
-use Rattle.pc_rule_law.specs.Past.{Has}
-use Rattle.pc_rule_law.specs.Views.{View, clock_at, with_notes}
+use Rattle.pc_rule_law.specs.Past.{Has, Describes}
+use Rattle.pc_rule_law.specs.Views.{View, clock_at, word_in, with_notes}
 use Rattle.pc_rule_law.proofs.Lists.{has_later}
 use Rattle.pc_rule.specs.Listed.{word_number}
 use Rattle.pc_rule.specs.Passes.{whole, view, knows, listed, visits, path, board_size}
@@ -15,7 +15,7 @@ use Rattle.pc_rule.specs.Starting.{change_of}
 use Rattle.pc_rule.specs.Walking.{path_with}
 use Rattle.pc_rule.proofs.Calls.{pass_stays}
 use Rattle.pc_rule.proofs.Starting.{element}
-use Rattle.pc_kcas.specs.Exchanges.{visit_count, FitsByMode, HasPublished, KnowsOwn, KnowsExchange, KnowsAbove, VisitsHeld, exchange_by, mode_word, visits_by, reads_by, own_exchange}
+use Rattle.pc_kcas.specs.Exchanges.{visit_count, FitsByMode, HasPublished, KnowsOwn, KnowsExchange, KnowsAbove, VisitsHeld, attempt_with, exchange_by, mode_word, visits_by, reads_by, own_exchange}
 use Rattle.pc_kcas.specs.Locks.{words_by, WhereLocked, CanLock}
 use Rattle.pc_kcas.proofs.Attempts.{only_published, may_publish, has_published, knows_place}
 use Rattle.pc_kcas.proofs.Locks.{raises_by, known_by, known_all, visit_known, more_words}
@@ -66,8 +66,9 @@ returns-clause-published g c =
       subst (λ l. HasPublished (view q) l) is
           (has_published (view p) (view q) (mode_word mode (path p).visits) (visits_by mode (path p)) (reads_by mode (path p)) (listed p) c.step_11.ensures.told (search rules) (search rules)
           c.prepare.ensures.described (let some = c.requires.some in omega arith)),
-      subst (λ l. KnowsOwn (whole q) l) is (own_published (whole p) (whole q) (visits_by mode (path p)) (reads_by mode (path p)) (listed p) c.step_11.ensures.learnt
-          (ap visit_count c.step_11.ensures.told ∙ c.prepare.ensures.described.visits) (known.0, known.1)),
+      subst (λ l. KnowsOwn (whole q) l) is (own_published (whole p) (whole q) (mode_word mode (path p).visits) (visits_by mode (path p)) (reads_by mode (path p)) (listed p) c.step_11.ensures.learnt
+          (subst (λ (u : View). Describes u.size.slots (attempt_with (mode_word mode (path p).visits) (visits_by mode (path p)) (reads_by mode (path p)) (map change_of (listed p))) (word_in u.attempt.words))
+          (sym c.step_11.ensures.told) c.prepare.ensures.described) (known.0, known.1)),
       subst (λ (u : View). VisitsHeld u (visits q)) (sym c.step_11.ensures.told)
           (let h = subst (VisitsHeld (view p)) (sym (ap (λ v. v.items) c.step_11.ensures.pass.2.1)) c.prepare.ensures.visits in record { within = h.within; each = h.each }),
     )
