@@ -7,6 +7,7 @@ use Rattle.pc_protocol.specs.Histories.{withdrawn, ended as at_the_end, changed,
 use Rattle.pc_protocol.specs.Notes.{Note, published}
 use Rattle.pc_exchange_law.specs.Ties.{code}
 use Rattle.pc_exchange_law.specs.Wholes.{Whole}
+use Rattle.pc_rule.specs.declared.opening.Place.{Place}
 use Rattle.pc_rule.specs.declared.refs.Ref.{Ref}
 use Rattle.pc_rule.specs.declared.visit.Visit.{Visit}
 use Rattle.pc_rule.specs.Carrying.{HasTakenEffect}
@@ -35,13 +36,13 @@ failed_err y (NodeLocked n by) seen is = (locked n (by - 1), is)
 failed_err y (WasStuck first second) seen is = (withdrawn, is)
 failed_err y (HadNoNumber n) seen is = ⊎_elim (λ w. (withdrawn, w)) (λ e. (at_the_end, e)) is
 
-pub changed_err : (y : Whole) (visits : List Visit) (v : Verdict) (seen : ℕ) → IfNodeChanged v (KnowsChanged y y.view.attempt.number)
-    → IfNodeChanged v (λ n. WasSeen visits n seen) → IfErr (answer_as v seen) (λ e. IfChanged e (IsPast visits y))
-changed_err y visits (Won s) seen is was = tt
-changed_err y visits (NodeChanged n) seen is was = (is, was)
-changed_err y visits (NodeLocked n by) seen is was = tt
-changed_err y visits (WasStuck first second) seen is was = tt
-changed_err y visits (HadNoNumber n) seen is was = tt
+pub changed_err : (y : Whole) (visits : List Visit) (places : List Place) (v : Verdict) (seen : ℕ) → IfNodeChanged v (KnowsChanged y y.view.attempt.number)
+    → IfNodeChanged v (λ n. WasSeen visits places n seen) → IfErr (answer_as v seen) (λ e. IfChanged e (IsPast visits places y))
+changed_err y visits places (Won s) seen is was = tt
+changed_err y visits places (NodeChanged n) seen is was = (is, was)
+changed_err y visits places (NodeLocked n by) seen is was = tt
+changed_err y visits places (WasStuck first second) seen is was = tt
+changed_err y visits places (HadNoNumber n) seen is was = tt
 
 pub locked_err : (X : ℕ → ℕ → Type 0) (v : Verdict) (seen : ℕ) → IfNodeLocked v X → IfErr (answer_as v seen) (λ e. IfLocked e X)
 locked_err X (Won s) seen is = tt

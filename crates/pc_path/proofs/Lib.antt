@@ -11,4 +11,5 @@ pub mod Losing
 pub mod Moving
 pub mod Paths
 pub mod Places
+pub mod Seeing
 pub mod Sitting

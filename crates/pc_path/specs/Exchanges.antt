@@ -2,6 +2,7 @@
 use Rattle.std.specs.Prelude.{◌≡◌, ◌≢◌, ◌⊎◌, ℕ, ◌-◌, ◌≤◌, List, Result, Ok, Err}
 use Rattle.std.specs.List.Sorted.{IsPermutation}
 use Rattle.pc_model.specs.declared.cell.Counter.TheVariants.{Attempt}
+use Rattle.pc_model.specs.declared.cell.Field.TheVariants.{Version}
 use Rattle.pc_model.specs.declared.numbers.Numbers.{Numbers}
 use Rattle.pc_model.specs.Exchanges.{Exchange}
 use Rattle.pc_rule_law.specs.Past.{Has}
@@ -50,17 +51,28 @@ HasFailed y = (cause : Cause) × KnowsFailed y y.view.attempt.number cause
 abbrev pub HasNoEffect : View → Whole → Type 0
 HasNoEffect v y = (y.view.attempt.number ≡ v.attempt.number) ⊎ HasFailed y
 
--- the first visit of the node gave this version, or none of these visits is of it
-abbrev pub WasSeen : List Visit → ℕ → ℕ → Type 0
-WasSeen visits n seen = IsFirstVisit visits n seen ⊎ ((v : Visit) → Has visits v → v.node ≢ n)
+-- the version of the node is among these words, and changes from this one
+abbrev pub IsListedFrom : List Place → ℕ → ℕ → Type 0
+IsListedFrom places n v = (p : Place) × Has places p × (p.node ≡ n) × (p.field ≡ Version) × (p.old ≡ v)
 
--- the version of the node is above the one that the last attempt covers; and this is what was seen of it
-abbrev pub IsPast : List Visit → Whole → ℕ → ℕ → Type 0
-IsPast visits y n seen = KnowsChanged y y.view.attempt.number n × WasSeen visits n seen
+-- the node was visited, or its version is among these words
+abbrev pub IsCovered : List Visit → List Place → ℕ → Type 0
+IsCovered visits places n = ((v : Visit) × Has visits v × (v.node ≡ n)) ⊎ ((v : ℕ) × IsListedFrom places n v)
+
+-- This is the least version of the node that a visit of it gave, or from which it was to be changed. So it is what the first visit gave,
+-- but where the node wasn't visited, or its version was listed from a smaller one.
+pub record WasSeen (visits : List Visit) (places : List Place) (n seen : ℕ) : Type 0 where
+  pub from : IsFirstVisit visits n seen ⊎ IsListedFrom places n seen
+  pub visited : (v : Visit) → Has visits v → v.node ≡ n → seen ≤ v.version
+  pub listed : (p : Place) → Has places p → p.node ≡ n → p.field ≡ Version → seen ≤ p.old
+
+-- the version of the node is above one that the last attempt covers; and this is the least one
+abbrev pub IsPast : List Visit → List Place → Whole → ℕ → ℕ → Type 0
+IsPast visits places y n seen = KnowsChanged y y.view.attempt.number n × WasSeen visits places n seen
 
 -- the same, or a later one of these visits gave a greater version of the node than the first one
-abbrev pub HasMoved : List Visit → Whole → ℕ → ℕ → Type 0
-HasMoved visits y n seen = IsPast visits y n seen ⊎ WasSeenToMove visits n seen
+abbrev pub HasMoved : List Visit → List Place → Whole → ℕ → ℕ → Type 0
+HasMoved visits places y n seen = IsPast visits places y n seen ⊎ WasSeenToMove visits n seen
 
 -- another pass has an exchange with the version of the node, which the last attempt visits, and that wasn't cleared before this was
 -- published

@@ -87,7 +87,7 @@ pub(crate) fn exchanged<H: Shape>(
     ensures carried { carried pass.new ≡ None }
     ensures done { IfOk result (HasExchanged (knows pass.old).told (whole pass.new) mode (path pass.old) (listed pass.old)) }
     ensures lost { OnErr result (HasNoEffect (view pass.old) (whole pass.new)) }
-    ensures changed { IfErr result (λ e. IfChanged e (IsPast (visits pass.old) (whole pass.new))) }
+    ensures changed { IfErr result (λ e. IfChanged e (IsPast (visits pass.old) (words_by mode (path pass.old) (listed pass.old)) (whole pass.new))) }
     ensures locked { IfErr result (λ e. IfLocked e (HasRival (whole pass.new))) }
     ensures walked { IfErr result (λ e. IfLocked e (λ n by. 0 < length (visits_by mode (path pass.old)))) }
     ensures blocked { IfErr result (λ e. IfBlocked e (WasInTheWay (board_size board.now).seats (view pass.old) (whole pass.new))) }
@@ -133,7 +133,7 @@ pub fn exec<H: Shape>(board: &Board<H>, pass: &mut Pass<H>) -> Result<u64, Lost>
 
     // Why it was lost.
     ensures lost { OnErr result (HasNoEffect (view pass.old) (whole pass.new)) }
-    ensures changed { IfErr result (λ e. IfChanged e (IsPast (visits pass.old) (whole pass.new))) }
+    ensures changed { IfErr result (λ e. IfChanged e (IsPast (visits pass.old) (listed pass.old) (whole pass.new))) }
     ensures never_locked { IfErr result (λ e. IfLocked e (λ n by. ⊥)) }
     ensures blocked { IfErr result (λ e. IfBlocked e (WasInTheWay (board_size board.now).seats (view pass.old) (whole pass.new))) }
     ensures numbers { IfErr result (λ e. IfNumbers e (IsOutOfNumbers (view pass.old) (whole pass.new))) }
@@ -176,7 +176,7 @@ pub fn vexec<H: Shape>(board: &Board<H>, pass: &mut Pass<H>) -> Result<u64, Lost
 
     // Why it was lost.
     ensures lost { OnErr result (HasNoEffect (view pass.old) (whole pass.new)) }
-    ensures changed { IfErr result (λ e. IfChanged e (IsPast (visits pass.old) (whole pass.new))) }
+    ensures changed { IfErr result (λ e. IfChanged e (IsPast (visits pass.old) (listed pass.old) (whole pass.new))) }
     ensures locked { IfErr result (λ e. IfLocked e (HasRival (whole pass.new))) }
     ensures blocked { IfErr result (λ e. IfBlocked e (WasInTheWay (board_size board.now).seats (view pass.old) (whole pass.new))) }
     ensures numbers { IfErr result (λ e. IfNumbers e (IsOutOfNumbers (view pass.old) (whole pass.new))) }
@@ -241,7 +241,7 @@ pub fn finish_vexec<H: Shape>(board: &Board<H>, pass: &mut Pass<H>) -> Result<u6
 
     // Why it was lost.
     ensures lost { OnErr result (HasFailed (whole pass.new)) }
-    ensures changed { IfErr result (λ e. IfChanged e (IsPast (visits pass.old) (whole pass.new))) }
+    ensures changed { IfErr result (λ e. IfChanged e (IsPast (visits pass.old) (listed pass.old) (whole pass.new))) }
     ensures locked { IfErr result (λ e. IfLocked e (HasRival (whole pass.new))) }
     ensures blocked { IfErr result (λ e. IfBlocked e (WasInTheWay (board_size board.now).seats (view pass.old) (whole pass.new))) }
     ensures numbers { IfErr result (λ e. IfNumbers e (IsAtLast (whole pass.new))) }

@@ -6,6 +6,7 @@ ghost use Rattle.pc_rule.specs.Passes.{whole, view, knows, visits, path, listed,
 ghost use Rattle.pc_rule.specs.Walking.{VersionsRise};
 ghost use Rattle.pc_kcas.specs.declared.mode.Mode.TheVariants.{LockedPath};
 ghost use Rattle.pc_kcas.specs.Exchanges.{RaisesVersions, FitsByMode, KnowsOldValues};
+ghost use Rattle.pc_kcas.specs.Locks.{words_by};
 ghost use Rattle.pc_kcas.specs.Verdicts.{KeepsAll};
 ghost use Rattle.pc_path.specs.Adds.{AreFromVisits, AreAtOneVersion};
 ghost use Rattle.pc_path.specs.Exchanges.{HasExchanged, HasNoEffect, HasMoved, IsOutOfNumbers, WasInTheWay, lost_at};
@@ -98,7 +99,7 @@ pub fn vexec_locked<H: Shape>(board: &Board<H>, pass: &mut Pass<H>) -> Result<u6
 
     // Why it was lost.
     ensures lost { OnErr result (HasNoEffect (view pass.old) (whole pass.new)) }
-    ensures changed { IfErr result (λ e. IfChanged e (HasMoved (visits pass.old) (whole pass.new))) }
+    ensures changed { IfErr result (λ e. IfChanged e (HasMoved (visits pass.old) (words_by LockedPath (path pass.old) (listed pass.old)) (whole pass.new))) }
     ensures never_locked { IfErr result (λ e. IfLocked e (λ n by. ⊥)) }
     ensures blocked { IfErr result (λ e. IfBlocked e (WasInTheWay (board_size board.now).seats (view pass.old) (whole pass.new))) }
     ensures numbers { IfErr result (λ e. IfNumbers e (IsOutOfNumbers (view pass.old) (whole pass.new))) }

@@ -38,7 +38,7 @@ returns-clause-published c = let p = c.args.pass.now in let q = c.step_14.new.pa
     let same = later_attempt (view p) (view q) (later_tried (whole p) _ _ c.step_14.result _ _ _ (whole q) e.told).same in
     let known = tried_known (whole p) _ _ c.step_14.result _ _ _ _ (whole q) e.told in (
       published_still (view p) (view q) (listed p) (listed q) same e.pass.0.1 is c.requires.published.0,
-      own_still (whole p) (whole q) (listed p) (listed q) e.pass.0.2 same.0 (ap (λ (o : OwnAttempt). o.withdrew) known.0) known.1 is c.requires.published.1,
+      own_still (whole p) (whole q) (listed p) (listed q) e.pass.0.1 e.pass.0.2 same.0 (ap (λ (o : OwnAttempt). o.withdrew) known.0) known.1 is c.requires.published.1,
       visits_still (view p) (view q) (visits p) (visits q) same.0 e.pass.0.1 (ap (λ v. v.items) e.pass.2.1) c.requires.published.2,
     )
 

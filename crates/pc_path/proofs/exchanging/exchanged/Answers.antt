@@ -2,11 +2,13 @@
 use Rattle.std.proofs.Common.{◌<◌, List, IfErr, ap, ◌∙◌, subst, inl}
 use Rattle.pc_exchange_law.specs.Paths.{dropped}
 use Rattle.pc_rule.specs.declared.visit.Visit.{Visit}
-use Rattle.pc_rule.specs.Passes.{whole, view, knows, path, listed, board_size}
+use Rattle.pc_rule.specs.Passes.{whole, view, knows, path, listed, visits, board_size}
 use Rattle.pc_kcas.specs.Exchanges.{exchange_by}
 use Rattle.pc_path.specs.Exchanges.{IsPast}
 use Rattle.pc_path.specs.Losses.{IfChanged, IfLocked}
 use Rattle.pc_path.proofs.Endings.{sits_then, recorded_ok, recorded_err}
+use Rattle.pc_kcas.specs.Locks.{words_by}
+use Rattle.pc_path.proofs.Seeing.{changed_again}
 use Rattle.pc_path.proofs.Exchanged.{kept_then, exchanged_ok, no_effect_err, numbers_then, blocked_then}
 use Rattle.pc_path.proofs.Paths.{path_kept, visits_kept}
 use Rattle.pc_path.proofs.exchanging.exchanged.Goals as goal
@@ -36,7 +38,8 @@ returns-in-Ok-clause-lost g c = no_effect_err (view c.args.pass.now) (whole c.en
 
 pub returns-in-Ok-clause-changed : goal.returns-in-Ok-clause-changed
 returns-in-Ok-clause-changed g c = let p = c.args.pass.now in let q = c.begun.new.pass in
-    subst (λ (l : List Visit). IfErr c.ended.result (λ e. IfChanged e (IsPast l (whole c.ended.new.pass)))) (visits_kept p q c.in-Ok.ensures.same.1) c.ended.ensures.changed
+    changed_again (whole c.ended.new.pass) (visits p) (words_by c.args.mode (path p) (listed p)) (listed q) c.ended.result c.in-Ok.ensures.each
+    (subst (λ (l : List Visit). IfErr c.ended.result (λ e. IfChanged e (IsPast l (listed q) (whole c.ended.new.pass)))) (visits_kept p q c.in-Ok.ensures.same.1) c.ended.ensures.changed)
 
 pub returns-in-Ok-clause-blocked : goal.returns-in-Ok-clause-blocked
 returns-in-Ok-clause-blocked g c = let p = c.args.pass.now in let q = c.begun.new.pass in
