@@ -1,12 +1,12 @@
 -- The steps of an exchange, from what the pass knows: each leads to the world afterwards, and to what the pass knows
 -- then. What is left for a table is which word the step is made on, and what is found where it misses.
-use Rattle.std.proofs.Common.{◌≡◌, ◌≢◌, ℕ, ◌+◌, ◌^◌, ◌<◌, ◌≤◌, ◌⊎◌, inl, inr, ⊎_elim, Bool, true, false, List, None, suc, length, refl, sym, ap, ◌∙◌, subst, arith}
+use Rattle.std.proofs.Common.{◌≡◌, ◌≢◌, ℕ, ◌+◌, ◌^◌, ◌<◌, ◌≤◌, ◌⊎◌, inl, inr, ⊎_elim, Bool, true, false, List, Option, Some, None, suc, length, refl, sym, ap, ◌∙◌, subst, arith}
 use mathlib.Core.Option.{some, some-injective}
 use lib.ListN.{get_elem?}
 use Rattle.pc_model.specs.declared.cell.Field.{Field}
 use Rattle.pc_model.specs.declared.cell.Field.TheVariants.{Version}
-use Rattle.pc_model.specs.Exchanges.{Visited, Changed, Exchange as PathExchange}
-use Rattle.pc_model.specs.Forms.{Form, IsSound}
+use Rattle.pc_model.specs.Exchanges.{Visited, Changed, FreshNode, Exchange as PathExchange}
+use Rattle.pc_model.specs.Forms.{Form}
 use Rattle.pc_words.specs.declared.word.WordKind.TheVariants.{Plain, Exchange}
 use Rattle.pc_words.specs.declared.status.Stage.TheVariants.{Idle, Undecided, Succeeded, Withdrawn}
 use Rattle.pc_words.specs.Statuses.{StageInRange}
@@ -21,17 +21,18 @@ use Rattle.pc_rule_law.proofs.Stages.{open_not_idle}
 use Rattle.pc_rule_law.proofs.WordMoves.{WordMoves}
 use Rattle.pc_rule_law.proofs.Outcomes as Outcomes
 use Rattle.pc_protocol.specs.Histories.{for_exchange, for_read, Cause, withdrawn, ended, changed, locked, Stage, absent, undecided, committed, aborted}
-use Rattle.pc_protocol.specs.Histories.{History, moments, IsPublished, IsDecided, value_by}
-use Rattle.pc_protocol.specs.Notes.{value, by, clock_was, visited, saw, looked, drew, verdict, rival, outdated, IsTrueNote}
+use Rattle.pc_protocol.specs.Histories.{History, moments, IsPublished, IsDecided, value_by, cells_now, IsSpare, IsUsed}
+use Rattle.pc_protocol.specs.Notes.{value, by, clock_was, visited, saw, looked, drew, verdict, rival, outdated, IsTrueNote, in_use}
 use Rattle.pc_protocol.specs.Seeing.{Visits, ChangesVersion, Covers}
 use Rattle.pc_protocol.specs.Serving.{HasPassedByNotes}
 use Rattle.pc_protocol.specs.Steps.{draw, publish, commit, CanCommit, abort, CanAbort, refer}
-use Rattle.pc_protocol.proofs.Stages.{same_cause, decided_is_published, committed_is_published}
+use Rattle.pc_protocol.proofs.Stages.{same_cause, decided_is_published, committed_is_published, used_not_spare}
 use Rattle.pc_protocol.proofs.Loads.{loads_tell}
-use Rattle.pc_exchange_law.specs.Ties.{code, exchange_of}
+use Rattle.pc_exchange_law.specs.Ties.{code, seat_in, exchange_of, CellsAreSound}
 use Rattle.pc_exchange_law.specs.Changes.{with_word, with_status, with_next_stamp, with_values, at_stage, stage_by}
 use Rattle.pc_exchange_law.specs.Attempts.{Scripts, OwnsAttempt, KnowsEntry, KnowsVisit}
 use Rattle.pc_exchange_law.specs.AttemptSteps.{with_own_word, with_script}
+use Rattle.pc_exchange_law.specs.OwnSlots.{IsOfShare, OwnSlots, OwnsSlots, MakesOwn}
 use Rattle.pc_exchange_law.specs.Passes.{PassKnows, IsKnown}
 use Rattle.pc_exchange_law.specs.Paths.{Path, read_of}
 use Rattle.pc_exchange_law.specs.Knowing.{after_own_store, after_publication, after_draw, after_refusal, after_decision}
@@ -39,6 +40,7 @@ use Rattle.pc_exchange_law.specs.Knowing.{after_withdrawal, after_clearing}
 use Rattle.pc_exchange_law.specs.ExchangeConditions.{MayStoreOwn, MayPublish, MayDrawFor, MaySucceed, MayFail, was_told, is_passed}
 use Rattle.pc_exchange_law.specs.ExchangeConditions.{KnowsPassed, is_changed, was_found, was_settled, KnowsChecked}
 use Rattle.pc_exchange_law.specs.ExchangeConditions.{MayTakeReference, MayClear}
+use Rattle.pc_exchange_law.specs.TieLaws.{MayMake}
 use Rattle.pc_exchange_law.specs.Worlds.{World}
 use Rattle.pc_exchange_law.proofs.AttemptNotes.{attempts_are_known}
 use Rattle.pc_exchange_law.proofs.ChangeLists.{has_among}
@@ -46,12 +48,18 @@ use Rattle.pc_exchange_law.proofs.Knowing.{decided_on_board}
 use Rattle.pc_exchange_law.proofs.KnowingSteps.{store_known, publication_known, draw_known, refusal_known, decision_known}
 use Rattle.pc_exchange_law.proofs.KnowingSteps.{withdrawal_known, clearing_known, unchanged_known}
 use Rattle.pc_exchange_law.proofs.OldNumbers.{basis_is}
-use Rattle.pc_exchange_law.proofs.SeenPaths.{visits_seen}
+use Rattle.pc_exchange_law.proofs.OwnSlots.{one_share, made_in_use}
+use Rattle.pc_exchange_law.proofs.SeenPaths.{visits_seen, visits_of_path}
+use Rattle.pc_exchange_law.proofs.Slots.{held_is_used, entry_used}
 use Rattle.pc_exchange_law.proofs.Serving.{notes_draw, notes_take, notes_clear}
 use Rattle.pc_exchange_law.proofs.TieDecisions.{may_commit, may_withdraw, may_end, may_fail, may_pass, may_lock}
 use Rattle.pc_exchange_law.proofs.TieTelling.{one_change, board_tells}
 use Rattle.pc_exchange_law.proofs.Worlds.{Goes, store_goes, word_goes, draw_goes, other_draw_goes, late_after}
 use Rattle.pc_exchange_law.proofs.WorldStatuses.{is_busy, publish_goes, success_goes, failure_goes, clearing_goes}
+
+-- what is known of the node that is made
+makes_given : (o : OwnSlots) (f : Option FreshNode) → MakesOwn o f → (g : FreshNode) → f ≡ Some g → MakesOwn o (Some g)
+makes_given o f makes g is = subst (MakesOwn o) is makes
 
 one_of_two : (st : Stage) (old new : ℕ) → (value_by st old new ≡ old) ⊎ (value_by st old new ≡ new)
 one_of_two absent old new = inl refl
@@ -64,9 +72,9 @@ true_or_false true = inl refl
 true_or_false false = inr refl
 
 module _ (form : Form) (z : Size) (few : z.seats ≤ 32) (id : ℕ) (b : Board) (t : Past) (w : Scripts) (h : History)
-    (late : ℕ → Bool) (shared : Shared (IsSound form) z b t) (world : World form z b t w h late) (v : View)
+    (late : ℕ → Bool) (shared : Shared (CellsAreSound form) z b t) (world : World form z b t w h late) (v : View)
     (own : Own z b.install t.course id v) (noted : AllNotes (NoteHolds z b t) v.notes) (k : PassKnows)
-    (known : IsKnown b t w h late id k) where
+    (known : IsKnown b t w h late id k) (owned : OwnsSlots z h id k.own k.slots) where
   seated : id < 64
   seated = let lt = own.seated.1 in omega arith
 
@@ -83,13 +91,38 @@ module _ (form : Form) (z : Size) (few : z.seats ≤ 32) (id : ℕ) (b : Board) 
       let goes = store_goes form z id b t w h late few shared world place x (known.own.resting rests) in
       (goes, store_known form z id b t w h late k known seated place x rests goes)
 
-  pub publish_step : (path : Path) (x : Attempt) (c : ℕ) (keys : List ℕ) → MayPublish form z k path x c keys
+  -- the node that an attempt makes is the own spare's
+  makes_ready : (x : Attempt) → ((y : Changed) → IsAmong y x.changes → IsUsed (h.slot y.node)) → k.own.busy ≡ false
+      → MakesOwn k.slots x.fresh
+      → MayMake h (exchange_of x) × ((g : FreshNode) → x.fresh ≡ Some g → IsOfShare z id g.node)
+  makes_ready x touches rests makes = (
+    record {
+      ready = λ g is. let m = makes_given k.slots x.fresh makes g is in
+          let s = owned.unnamed g.node m.0 (owned.rests rests) in record {
+            is_spare = s.spare.0;
+            version = m.1 ∙ ap (λ (i : ℕ). i + 1) (sym s.spare.1);
+            filled = λ f. (s.filled f (g.fields f) (m.2 f)).1;
+          };
+      apart = λ y g u undecided_y is is_u same. let m = makes_given k.slots x.fresh makes g is in
+          let seat : seat_in y ≡ id = one_share z (seat_in y) id g.node
+          (subst (IsOfShare z (seat_in y)) (sym same) (world.slots.made y u undecided_y is_u)) (owned.of_share g.node m.0) in
+          let before = owned.names y u seat undecided_y is_u in
+          absurd (let clash : true ≡ false = sym before.0 ∙ owned.rests rests in cc);
+      unchanged = λ y g among is same. let m = makes_given k.slots x.fresh makes g is in
+          let s = owned.unnamed g.node m.0 (owned.rests rests) in
+          used_not_spare (h.slot y.node) (touches y among) (subst (λ (n : ℕ). IsSpare (h.slot n)) (sym same) s.spare.0);
+    },
+    λ g is. owned.of_share g.node (makes_given k.slots x.fresh makes g is).0,
+  )
+
+  pub publish_step : (path : Path) (x : Attempt) (c : ℕ) (keys : List ℕ)
+      → ((y : Visited) → IsAmong y path.visits → IsUsed (h.slot y.node)) → MayPublish form z k path x c keys
       → let a : ℕ = (b.status id).number + 1 in
       let b' = with_status b id (record { number = a; stage = Undecided }) in
       let t' = with_values t t.cells t.plain (put2 t.attempt id a x) (put2 t.words id a (b.word id)) in
       let w' = with_script w id a (b.word id) in let h' = publish h (code id a) (exchange_of x) c in
       Goes form z id b t w h late b' t' w' h' late × IsKnown b' t' w' h' late id (after_publication k (code id a) (exchange_of x) c)
-  publish_step path x c keys may =
+  publish_step path x c keys used_path may =
       let a : ℕ = (b.status id).number + 1 in
       let idle = known.own.resting may.rests in
       let room : a < 2 ^ 28 = let r = may.room in let same = number_is in omega arith in
@@ -97,8 +130,13 @@ module _ (form : Form) (z : Size) (few : z.seats ≤ 32) (id : ℕ) (b : Board) 
       let same : h.clock ≡ b.clock = world.tied.clock in omega arith in
       let described : Describes z.slots x (b.word id) = subst (Describes z.slots x)
       (λ i place. sym (known.own.words place) i) may.described in
+      let touches : (y : Changed) → IsAmong y x.changes → IsUsed (h.slot y.node) = λ y among. ⊎_elim
+      (λ held'. held_is_used z b h world.slots k y.node (λ m has. known.told (in_use m) has) held')
+      (λ seen. subst (λ (n : ℕ). IsUsed (h.slot n)) seen.2 (used_path seen.0 seen.1)) (may.touches y among) in
+      let makes = makes_ready x touches may.rests may.makes in
       let goes = publish_goes form z id b t w h late shared world seated c x keys idle room past may.formed may.raises
-      (visits_seen h k path c x may.seen (λ of. known.told (saw c (read_of path)) of.seen)) described may.fits (basis_is z h k world.rule world.opened known.told x may.based) in (
+      (visits_seen h k path c x may.seen (λ of. known.told (saw c (read_of path)) of.seen)) described may.fits (basis_is z h k world.rule world.opened known.told x may.based)
+      makes.0 may.marks touches (λ y among. used_path y (visits_of_path k path c x may.seen y among)) makes.1 in (
         goes,
         publication_known form z id b t w h late k known seated
             (with_status b id (record { number = a; stage = Undecided }))
@@ -195,19 +233,23 @@ module _ (form : Form) (z : Size) (few : z.seats ≤ 32) (id : ℕ) (b : Board) 
     version = refl;
   }
 
+  pub success_can : (p s : ℕ) → p < 64 → IsOpen (b.status p).stage → MaySucceed v k p (b.status p).number s
+      → CanCommit h (code p (b.status p).number) s
+  success_can p s small pending may = may_commit b t h world.tied p (b.status p).number small (refl, pending) world.rule s
+      (known.told (drew (code p (b.status p).number) s) may.drawn) (all_checked p (b.status p).number s may.checked)
+
   pub success_step : (p s : ℕ) → p < 64 → IsOpen (b.status p).stage → MaySucceed v k p (b.status p).number s
       → let y : ℕ = code p (b.status p).number in let h' = commit h y s in
       let b' = with_status b p (at_stage b p (Succeeded s)) in
-      let t' = with_values t h'.plain h'.plain t.attempt t.words in
+      let t' = with_values t (cells_now h') h'.plain t.attempt t.words in
       Goes form z id b t w h late b' t' w h' late × IsKnown b' t' w h' late id (after_decision k y (committed s))
   success_step p s small pending may =
       let a : ℕ = (b.status p).number in let y : ℕ = code p a in
-      let can : CanCommit h y s = may_commit b t h world.tied p a small (refl, pending) world.rule s
-      (known.told (drew y s) may.drawn) (all_checked p a s may.checked) in
+      let can : CanCommit h y s = success_can p s small pending may in
       let goes = success_goes form z id b t w h late shared world p small s may.low can in (
         goes,
         decision_known form z id b t w h late k known seated p small (Succeeded s) (committed s)
-            (with_values t (commit h y s).plain (commit h y s).plain t.attempt t.words) (commit h y s) (λ i. i) tt (λ i. refl) goes
+            (with_values t (cells_now (commit h y s)) (commit h y s).plain t.attempt t.words) (commit h y s) (λ i. i) tt (λ i. refl) goes
             (λ e. (own_is_busy p pending e, λ is. absurd (let clash : committed s ≡ aborted withdrawn = is in cc))),
       )
 
@@ -235,7 +277,9 @@ module _ (form : Form) (z : Size) (few : z.seats ≤ 32) (id : ℕ) (b : Board) 
       let published : IsPublished (h.stage (code q e)) = subst IsPublished (sym is) tt in
       let same : h.op (code q e) ≡ exchange_of (t.attempt q e) = world.tied.exchanges q e small published in
       let there = (noted (held q e n Version) seen).0.2 in
-      let told = (board_tells b t h world.rule world.tied).version n in
+      let in_use_n = entry_used b t h world.tied world.slots.changed q e (change n Version there.0 there.1) small
+      (noted (held q e n Version) seen).0.0 there.2 in
+      let told = (board_tells b t h world.rule world.tied).version n (used_not_spare (h.slot n) in_use_n) in
       let same_entry : change n Version there.0 there.1 ≡ change n Version old new =
       one_change b t h world.rule world.tied q e small published (change n Version there.0 there.1) (change n Version old new) there.2
       (subst (λ (y : PathExchange). IsAmong (change n Version old new) y.changes) (sym same)
@@ -253,7 +297,7 @@ module _ (form : Form) (z : Size) (few : z.seats ≤ 32) (id : ℕ) (b : Board) 
       worth_by q e n old new st small seen is.0 is.1 (entry_is q e i n Version old new entry).1
 
   -- a failure that isn't of the pass's own accord
-  may_abort : (p : ℕ) → p < 64 → IsOpen (b.status p).stage → (cause : Cause) → MayFail v k p (b.status p).number cause
+  pub may_abort : (p : ℕ) → p < 64 → IsOpen (b.status p).stage → (cause : Cause) → MayFail v k p (b.status p).number cause
       → CanAbort h (code p (b.status p).number) cause
   may_abort p small pending withdrawn may = absurd may
   may_abort p small pending ended may = may_end b t h world.tied p (b.status p).number small (refl, pending)
@@ -316,21 +360,22 @@ module _ (form : Form) (z : Size) (few : z.seats ≤ 32) (id : ℕ) (b : Board) 
       (λ e. let low = inside.1 in omega arith) (λ e. let low = inside.2 in omega arith)
       (one_of_two may.stage may.old may.new) in
       let moves : WordMoves z b t id n f (Plain (t.plain n f)) t.placing t.course = Outcomes.takes_reference
-      (IsSound form) z b t shared id p n f a is (decided_on_board b t h world.tied p a may.stage small told) fits_word in
+      (CellsAreSound form) z b t shared id p n f a is (decided_on_board b t h world.tied p a may.stage small told) fits_word in
       let same : t.plain n f ≡ x = worth ∙ sym may.worth in
       let moves_x : WordMoves z b t id n f (Plain x) t.placing t.course = subst
       (λ (i : ℕ). WordMoves z b t id n f (Plain i) t.placing t.course) same moves in
-      let goes = word_goes form z id b t w h late few shared world n f (Plain x) t.placing t.course moves_x in (
+      let in_use_n = entry_used b t h world.tied world.slots.changed p a (change n f may.old may.new) small entry.0 entry.1 in
+      let goes = word_goes form z id b t w h late few shared world n f (Plain x) t.placing t.course in_use_n moves_x in (
         goes,
         unchanged_known form z id b t w h late k known seated (with_word b n f (Plain x)) t (refer h n f None)
             (λ q. refl) (λ q place. refl) (λ y. refl) goes,
       )
 
   -- the own attempt is cleared
-  pub clear_step : MayClear v k
+  pub clear_step : (st : Stage) → Has k.told (verdict (code v.seat k.own.number) st) → MayClear v k
       → let b' = with_status b id (at_stage b id Idle) in
-      Goes form z id b t w h late b' t w h late × IsKnown b' t w h late id (after_clearing k)
-  clear_step may =
+      Goes form z id b t w h late b' t w h late × IsKnown b' t w h late id (after_clearing k st)
+  clear_step st decided_so may =
       let a : ℕ = (b.status id).number in
       let to_id : ℕ × ℕ → Type 0 = λ i. (x : Changed) → Has (t.attempt i.0 i.1).changes x
       → IsClean t.placing i.0 i.1 (b.cell x.node x.field) in
@@ -348,4 +393,6 @@ module _ (form : Form) (z : Size) (few : z.seats ≤ 32) (id : ℕ) (b : Board) 
       small told in
       (subst (λ (i : ℕ × ℕ). DecidedBelow b.status i.0 (i.1 + 1)) (λ i. (own.seated.0 i, sym number_is i)) over).1 refl o in
       let goes = clearing_goes form z id b t w h late shared world closed clean_here in
-      (goes, clearing_known form z id b t w h late k known seated goes)
+      let told : IsTrueNote h (verdict (code id k.own.number) st) = subst (λ (i : ℕ). IsTrueNote h (verdict (code i k.own.number) st))
+      own.seated.0 (known.told (verdict (code v.seat k.own.number) st) decided_so) in
+      (goes, clearing_known form z id b t w h late k known seated st goes (made_in_use z h id k.own k.slots owned st told))

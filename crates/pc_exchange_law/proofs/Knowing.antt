@@ -59,6 +59,7 @@ module _ (slots : ℕ) (b : Board) (t : Past) (w : Scripts) (h : History) (late 
   more_learns noted told = record {
     own = refl;
     ready = refl;
+    slots = refl;
     noted = λ n has. has_right noted k.noted n has;
     told = λ n has. has_right told k.told n has;
   }

@@ -19,6 +19,7 @@ use Rattle.pc_exchange_law.specs.Ties.{code}
 use Rattle.pc_exchange_law.specs.Changes.{with_status, with_next_stamp, at_stage}
 use Rattle.pc_exchange_law.specs.Attempts.{Scripts, OwnAttempt, OwnsAttempt}
 use Rattle.pc_exchange_law.specs.AttemptSteps.{with_own_word}
+use Rattle.pc_exchange_law.specs.OwnSlots.{OwnSlots, makes_one, slots_cleared, made_by}
 use Rattle.pc_exchange_law.specs.Passes.{PassKnows, IsKnown}
 use Rattle.pc_exchange_law.specs.Knowing.{after_own_store, after_publication, after_draw, after_refusal}
 use Rattle.pc_exchange_law.specs.Knowing.{outdated_by, after_decision, after_withdrawal, after_clearing}
@@ -37,6 +38,11 @@ pub own_same : (b : Board) (h : History) (j : ℕ) (o : OwnAttempt) (b' : Board)
 own_same b h j o b' h' small statuses words stages own = attempt_stays (suc j) j b h b' h' o
     ((steps_leave_attempts (suc j) b h).others b' h' statuses (λ p place _. words p place) stages) small
     (λ e. absurd (omega arith)) own
+
+-- nothing of it is said of slots
+on_slots : (b : Board) (t : Past) (w : Scripts) (h : History) (late : ℕ → Bool) (j : ℕ) (k : PassKnows) (o : OwnSlots)
+    → IsKnown b t w h late j k → IsKnown b t w h late j (record k { slots = o })
+on_slots b t w h late j k o known = record { own = known.own; ready = known.ready; noted = known.noted; told = known.told }
 
 module _ (form : Form) (z : Size) (id : ℕ) (b : Board) (t : Past) (w : Scripts) (h : History) (late : ℕ → Bool)
     (k : PassKnows) (known : IsKnown b t w h late id k) (seated : id < 64) where
@@ -79,7 +85,7 @@ module _ (form : Form) (z : Size) (id : ℕ) (b : Board) (t : Past) (w : Scripts
       let before = goes_on b' t' w' h' late goes own k.ready
       (subst (λ (u : Board). OwnsAttempt u h' id own) (sym is) ((own_steps_are_known id b h k.own known.own).publishes e c))
       known.ready in
-      more_known 0 b' t' w' h' late id (record k { own = own }) before [] (published y e c ∷ [])
+      more_known 0 b' t' w' h' late id (record k { own = own; slots = record k.slots { named = makes_one e.fresh } }) (on_slots b' t' w' h' late id (record k { own = own }) (record k.slots { named = makes_one e.fresh }) before) [] (published y e c ∷ [])
       (λ n has. absurd (none_has n has))
       (all_one (IsTrueNote h') (published y e c) (
         subst IsPublished (sym (updated_here h.stage y undecided y refl)) tt,
@@ -184,7 +190,13 @@ module _ (form : Form) (z : Size) (id : ℕ) (b : Board) (t : Past) (w : Scripts
       ))
 
   -- the own attempt is cleared
-  pub clearing_known : Goes form z id b t w h late (with_status b id (at_stage b id Idle)) t w h late
-      → IsKnown (with_status b id (at_stage b id Idle)) t w h late id (after_clearing k)
-  clearing_known goes = goes_on (with_status b id (at_stage b id Idle)) t w h late goes
-      (record k.own { busy = false }) k.ready (own_steps_are_known id b h k.own known.own).clears known.ready
+  pub clearing_known : (st : Stage) → Goes form z id b t w h late (with_status b id (at_stage b id Idle)) t w h late
+      → ((m : Note) → Has (made_by st k.slots.named k.slots.spare) m → IsTrueNote h m)
+      → IsKnown (with_status b id (at_stage b id Idle)) t w h late id (after_clearing k st)
+  clearing_known st goes made =
+      let after = with_status b id (at_stage b id Idle) in
+      let own : OwnAttempt = record k.own { busy = false } in
+      let before = goes_on after t w h late goes own k.ready (own_steps_are_known id b h k.own known.own).clears known.ready in
+      more_known 0 after t w h late id (record k { own = own; slots = slots_cleared k.slots st })
+      (on_slots after t w h late id (record k { own = own }) (slots_cleared k.slots st) before) []
+      (made_by st k.slots.named k.slots.spare) (λ n has. absurd (none_has n has)) made

@@ -11,11 +11,13 @@ pub mod KnowingSteps
 pub mod NoteLists
 pub mod OldNumbers
 pub mod OwnAttempts
+pub mod OwnSlots
 pub mod Passes
 pub mod Paths
 pub mod SeenPaths
 pub mod SeenStamps
 pub mod Serving
+pub mod Slots
 pub mod Statuses
 pub mod TieDecisions
 pub mod TieDraws
@@ -34,6 +36,7 @@ pub mod WholeCells
 pub mod WholeClosings
 pub mod WholeDecisions
 pub mod WholeDraws
+pub mod WholeFills
 pub mod WholeFound
 pub mod WholeKeeping
 pub mod WholeLooks
@@ -42,6 +45,7 @@ pub mod WholePaths
 pub mod WholeReads
 pub mod WholeReferences
 pub mod WholeSeats
+pub mod WholeSlots
 pub mod WholeSteps
 pub mod WholeStores
 pub mod WholeVisits
@@ -49,8 +53,8 @@ pub mod WholeWords
 mod WorkedAttempts
 mod WorkedExchange
 mod WorkedFailure
+pub mod WorkedForms
 mod WorkedOpening
 mod WorkedSteps
-mod WorkedVisits
 pub mod WorldStatuses
 pub mod Worlds

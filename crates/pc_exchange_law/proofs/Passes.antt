@@ -1,7 +1,9 @@
 -- A step leaves what the other passes know, and the notes of the one that steps. And a board opens so.
-use Rattle.std.proofs.Common.{◌≡◌, ◌≢◌, ℕ, ◌<◌, ◌≤◌, Bool, false, [], refl, ◌∙◌}
+use Rattle.std.proofs.Common.{◌≡◌, ◌≢◌, ℕ, ◌<◌, ◌≤◌, Bool, false, [], refl, sym, ◌∙◌, subst, arith}
+use Rattle.std.proofs.lemmas.Bool.Decides.{nat_tests}
 use Rattle.pc_model.specs.declared.cell.Field.{Field}
-use Rattle.pc_model.specs.Cells.{Cells}
+use Rattle.pc_model.specs.declared.cell.Field.TheVariants.{Version}
+use Rattle.pc_model.specs.Cells.{Cells, IsEven, IsOdd}
 use Rattle.pc_model.specs.Forms.{Form, IsSound}
 use Rattle.pc_model.specs.Linked.{opening_cells}
 use Rattle.pc_rule_law.specs.Board.{Size, Board}
@@ -10,8 +12,11 @@ use Rattle.pc_rule_law.specs.Openings.{opening_board, opening_attempt, opening_w
 use Rattle.pc_rule_law.specs.Seats.{opening_past}
 use Rattle.pc_rule_law.proofs.Lists.{none_has}
 use Rattle.pc_protocol.specs.Histories.{History}
+use Rattle.pc_protocol.specs.Links.{LinksRule}
 use Rattle.pc_protocol.specs.Notes.{Note, IsTrueNote}
-use Rattle.pc_exchange_law.specs.Ties.{last_stamp}
+use Rattle.pc_protocol.proofs.LinkSteps.{links_law}
+use Rattle.pc_exchange_law.specs.Slots.{SoundIsLinked}
+use Rattle.pc_exchange_law.specs.Ties.{seat_in, last_stamp}
 use Rattle.pc_exchange_law.specs.TieLaws.{opening_history, HasOpened}
 use Rattle.pc_exchange_law.specs.Attempts.{Scripts, AttemptNote, IsTrueAttemptNote}
 use Rattle.pc_exchange_law.specs.AttemptSteps.{no_scripts}
@@ -45,15 +50,19 @@ module _ (form : Form) (z : Size) (id : ℕ) (b : Board) (t : Past) (w : Scripts
   }
 
 -- a pass that is made knows what its maker has noted; its seat is as at the opening until then
-pub made_known : (b : Board) (t : Past) (w : Scripts) (h : History) (late : ℕ → Bool) (i j start : ℕ) (k : PassKnows)
-    → IsKnown b t w h late i k → IsKnown b t w h late j (knows_nothing start)
-    → IsKnown b t w h late j (record (knows_nothing start) { noted = k.noted; told = k.told })
-made_known b t w h late i j start k maker blank = record {
+pub made_known : (b : Board) (t : Past) (w : Scripts) (h : History) (late : ℕ → Bool) (i j seat : ℕ) (z : Size) (k : PassKnows)
+    → IsKnown b t w h late i k → IsKnown b t w h late j (knows_nothing z seat)
+    → IsKnown b t w h late j (record (knows_nothing z seat) { noted = k.noted; told = k.told })
+made_known b t w h late i j seat z k maker blank = record {
   own = blank.own;
   ready = blank.ready;
   noted = maker.noted;
   told = maker.told;
 }
+
+-- each slot of the opening is marked
+slot_is_odd : (version n : ℕ) → IsEven version → n ≢ 1 → IsOdd (opening_cells version n Version)
+slot_is_odd version n even ne = grind (arith, nat_tests)
 
 module _ (form : Form) (z : Size) (cells : Cells) where
   abbrev b0 : Board
@@ -66,22 +75,35 @@ module _ (form : Form) (z : Size) (cells : Cells) where
   h0 = opening_history cells z.starts.stamp
 
   pub world_opens : ((n : ℕ) (f : Field) → cells n f ≡ opening_cells z.starts.version n f) → IsSound form z.slots cells
-      → z.starts.stamp ≤ last_stamp
+      → z.starts.stamp ≤ last_stamp → SoundIsLinked form
       → World form z b0 t0 no_scripts h0 (λ j. false)
-  world_opens usual sound early = let opened : HasOpened b0 t0 cells = openings_are_tied.usual z cells in record {
-    rule = opened.rule;
-    tied = opened.tied;
-    scripts = (attempts_open z cells).scripts;
-    clock = clock_ends.opening z.seats z.starts.stamp early;
-    opened = usual;
-    opening = sound;
-    charged = λ p a. [];
-    fits = λ p a small published. absurd published;
-    based = λ x published. absurd published;
-    seen = λ x published. absurd published;
-  }
+  world_opens usual sound early lawful =
+      let first : IsEven z.starts.version = subst IsEven (usual 1 Version) (lawful z.slots cells sound).sentinel in
+      let marked : (n : ℕ) → n ≢ 1 → IsOdd (cells n Version) = λ n ne. subst IsOdd (sym (usual n Version)) (slot_is_odd z.starts.version n first ne) in
+      let opened : HasOpened b0 t0 cells = openings_are_tied.usual z cells marked in record {
+        rule = opened.rule;
+        tied = opened.tied;
+        scripts = (attempts_open z cells).scripts;
+        clock = clock_ends.opening z.seats z.starts.stamp early;
+        opened = usual;
+        opening = sound;
+        charged = λ p a. [];
+        fits = λ p a small published. absurd published;
+        based = λ x published. absurd published;
+        seen = λ x published. absurd published;
+        slots = record {
+          links = subst (λ (c : Cells). LinksRule z.slots (opening_history c z.starts.stamp)) (λ i n f. sym (usual n f) i)
+              (links_law.opening z.slots z.starts.version z.starts.stamp last_stamp seat_in first);
+          sentinel = tt;
+          changed = λ x a published. absurd published;
+          visited = λ x v published. absurd published;
+          plain = λ n f no. tt;
+          made = λ x g u. absurd u;
+        };
+        lawful = lawful;
+      }
 
-  pub known_at_opening : (j : ℕ) → IsKnown b0 t0 no_scripts h0 (λ j. false) j (knows_nothing z.starts.attempt)
+  pub known_at_opening : (j : ℕ) → IsKnown b0 t0 no_scripts h0 (λ j. false) j (knows_nothing z j)
   known_at_opening j = record {
     own = (attempts_open z cells).own j;
     ready = λ _. refl;

@@ -7,8 +7,8 @@ use Rattle.pc_words.specs.declared.word.WordKind.{WordKind}
 use Rattle.pc_words.specs.declared.word.WordKind.TheVariants.{Plain, Install, Exchange as Refers}
 use Rattle.pc_history.specs.Footprints.{IsAmong}
 use Rattle.pc_history.proofs.WorldRuns.{among_front, among_either}
-use Rattle.pc_protocol.specs.Histories.{for_read, History}
-use Rattle.pc_protocol.specs.Notes.{value, visited, read_word, saw, looked, IsTrueNote}
+use Rattle.pc_protocol.specs.Histories.{for_read, History, IsUsed}
+use Rattle.pc_protocol.specs.Notes.{value, visited, read_word, saw, looked, in_use, IsTrueNote}
 use Rattle.pc_protocol.specs.Owned.{IsUnread}
 use Rattle.pc_protocol.specs.Rules.{Rule}
 use Rattle.pc_protocol.specs.Seeing.{Covers}
@@ -35,6 +35,7 @@ empty_path h j begun = record {
   unread = λ s e. no_stamp s e;
   seen = λ s e. no_stamp s e;
   checked = λ s v e among. absurd among;
+  used = λ v among. absurd (⊎_elim (λ a. a) (λ a. a) among);
 }
 
 pub noted_stays : (h h' : History) (p : Path) → ((v : Visited) → IsAmong v p.visits → (b : ℕ) → IsTrueNote h (visited v.node v.version b) → IsTrueNote h' (visited v.node v.version b))
@@ -58,6 +59,7 @@ module _ (h h' : History) (keeps : Keeps h h') (j : ℕ) (p : Path) (path : IsPa
     seen = λ s e. keeps.notes (saw s (read_of p)) (path.seen s e);
     checked = λ s v e among. ⊎_elim (λ left. inl left)
         (λ was. inr (keeps.notes (looked s v.node (value v.version)) was)) (path.checked s v e among);
+    used = λ v among. keeps.notes (in_use v.node) (path.used v among);
   }
 
   -- one that uses it up
@@ -67,6 +69,7 @@ module _ (h h' : History) (keeps : Keeps h h') (j : ℕ) (p : Path) (path : IsPa
     unread = λ s e. no_stamp s e;
     seen = λ s e. no_stamp s e;
     checked = λ s v e among. no_stamp s e;
+    used = λ v among. ⊎_elim (λ a. keeps.notes (in_use v.node) (path.used v (inl a))) (λ a. absurd a) among;
   }
 
 first_or_later : (n : ℕ) (v : Visited) (visits : List Visited) (c : Bool) → (v.node == n) ≡ c → (c || has_visited n visits) ≡ true
@@ -101,8 +104,8 @@ module _ (h : History) (j : ℕ) (p : Path) (path : IsPathOf h j p) where
       (λ changes. absurd changes.among) covers
 
   -- one visit more, of a version that is noted
-  pub visits_more : (n x c : ℕ) → IsEven x → IsTrueNote h (visited n x c) → IsPathOf h j (more_visits p n x)
-  visits_more n x c even note = let v0 : Visited = record { node = n; version = x } in record {
+  pub visits_more : (n x c : ℕ) → IsUsed (h.slot n) → IsEven x → IsTrueNote h (visited n x c) → IsPathOf h j (more_visits p n x)
+  visits_more n x c is_used even note = let v0 : Visited = record { node = n; version = x } in record {
     noted = record {
       visits = λ v among. ⊎_elim (λ old. path.noted.visits v old)
           (λ last. ⊎_elim (λ same. subst (λ (w : Visited). IsEven w.version × ((b : ℕ) × IsTrueNote h (visited w.node w.version b))) (sym same) (even, (c, note)))
@@ -116,6 +119,11 @@ module _ (h : History) (j : ℕ) (p : Path) (path : IsPathOf h j p) where
     unread = λ s e. no_stamp s e;
     seen = λ s e. no_stamp s e;
     checked = λ s v e among. no_stamp s e;
+    used = λ v among. ⊎_elim
+        (λ a. ⊎_elim (λ old. path.used v (inl old))
+        (λ last. ⊎_elim (λ same. subst (λ (w : Visited). IsUsed (h.slot w.node)) (sym same) is_used) (λ none'. absurd none') last)
+        (among_either v p.visits (v0 ∷ []) a))
+        (λ a. absurd a) among;
   }
 
   -- one read more, of a word of a node that was visited
@@ -136,14 +144,15 @@ module _ (h : History) (j : ℕ) (p : Path) (path : IsPathOf h j p) where
         unread = λ s e. no_stamp s e;
         seen = λ s e. no_stamp s e;
         checked = λ s w e in_w. no_stamp s e;
+        used = λ w in_w. ⊎_elim (λ a. path.used w (inl a)) (λ a. absurd a) in_w;
       }
 
   -- by what was found in a version word, and in any word
-  pub visit_is_path : (n : ℕ) (k : WordKind) → ((x : ℕ) → k ≡ Plain x → (c : ℕ) × IsTrueNote h (visited n x c)) → IsPathOf h j (with_visit p n k)
-  visit_is_path n (Plain x) found = either_way (IsPathOf h j) (is_visitable x) (more_visits p n x) p
-      (λ is. let note = found x refl in visits_more n x note.0 (visitable_is_even x is) note.1) path
-  visit_is_path n (Install q i) found = path
-  visit_is_path n (Refers q a) found = path
+  pub visit_is_path : (n : ℕ) (k : WordKind) → IsUsed (h.slot n) → ((x : ℕ) → k ≡ Plain x → (c : ℕ) × IsTrueNote h (visited n x c)) → IsPathOf h j (with_visit p n k)
+  visit_is_path n (Plain x) is_used found = either_way (IsPathOf h j) (is_visitable x) (more_visits p n x) p
+      (λ is. let note = found x refl in visits_more n x note.0 is_used (visitable_is_even x is) note.1) path
+  visit_is_path n (Install q i) is_used found = path
+  visit_is_path n (Refers q a) is_used found = path
 
   read_counts : (n : ℕ) (f : Field) (x : ℕ) → ((v b : ℕ) → IsTrueNote h (visited n v b) → (c : ℕ) × IsTrueNote h (read_word n v f x c))
       → has_visited n p.visits ≡ true → IsPathOf h j (more_reads p n f x)
@@ -175,6 +184,8 @@ module _ (h : History) (j : ℕ) (p : Path) (path : IsPathOf h j p) where
         (subst (λ (l : List Visited). IsAmong w l) first was_left))
         (λ was. inr was)
         (path.checked u w e among);
+    used = λ w among. ⊎_elim (λ a. path.used w (inl a))
+        (λ a. path.used w (inr (subst (λ (l : List Visited). IsAmong w l) (sym first) (inr a)))) among;
   }
 
 -- A stamp is drawn for the read
@@ -188,6 +199,7 @@ stamp_is_drawn h rule j p path =
       seen = λ s e. subst (λ (u : ℕ). IsTrueNote h' (saw u (read_of p))) (let one : h.clock ≡ s = cc in one)
           (keeps.notes (saw h.clock (read_of p)) ((rule_tells h rule).loads.clock (read_of p) path.noted));
       checked = λ s v e among. inl among;
+      used = λ v among. path.used v (inl (⊎_elim (λ a. a) (λ a. a) among));
     }
 
 -- the read may take effect once every visit has passed

@@ -1,7 +1,7 @@
 -- What published exchanges visit and read was so before they were published, and stays so; and what an exchange of a pass's path
 -- visits and reads is.
-use Rattle.std.proofs.Common.{◌≡◌, ℕ, ◌⊎◌, inl, ⊎_elim, List, [], ◌∷◌, refl, sym, ◌∙◌, subst}
-use Rattle.pc_model.specs.Exchanges.{Exchange}
+use Rattle.std.proofs.Common.{ℕ, ⊎_elim, refl, sym, subst}
+use Rattle.pc_model.specs.Exchanges.{Visited, Exchange}
 use Rattle.pc_history.specs.Footprints.{IsAmong}
 use Rattle.pc_history.proofs.Updates.{updated_here, from_updated}
 use Rattle.pc_rule_law.specs.Past.{Attempt}
@@ -69,6 +69,14 @@ module _ (h : History) (k : PassKnows) (path : Path) (c : ℕ) (x : Attempt) whe
   pub visits_seen : GoesByPath k path c x → (VisitsPath k path c x → IsTrueNote h (saw c (read_of path)))
       → Saw (moments h) c (exchange_of x)
   visits_seen how told = ⊎_elim (λ words. nothing_seen words.1) (λ of. path_seen of.1 (told of.1)) how
+
+-- what it visits was visited on the path
+pub visits_of_path : (k : PassKnows) (path : Path) (c : ℕ) (x : Attempt) → GoesByPath k path c x → (v : Visited)
+    → IsAmong v x.visits → IsAmong v path.visits
+visits_of_path k path c x how v among = ⊎_elim
+    (λ words. absurd (subst (IsAmong v) words.1.0 among))
+    (λ of. of.1.visits v among)
+    how
 
 -- and by its mode it has no visits and reads, or the reads of the path
 pub counts_reads : (k : PassKnows) (path : Path) (c : ℕ) (x : Attempt) → GoesByPath k path c x → CountsReads path x

@@ -8,7 +8,7 @@ use Rattle.pc_protocol.specs.Histories.{Stage, absent, undecided, committed, abo
 use Rattle.pc_protocol.specs.Notes.{Note as RunNote, clock_was, visited, read_word, saw, looked, published, held, drew, verdict, in_use, rival, in_run, cleared, outdated, IsTrueNote}
 use Rattle.pc_protocol.specs.Rules.{Rule}
 use Rattle.pc_rule_law.proofs.Lists.{none_has}
-use Rattle.pc_exchange_law.specs.Knowing.{HasSeenStamp, IsAboveSeen}
+use Rattle.pc_exchange_law.specs.Knowing.{IsAboveSeen}
 
 -- nothing stands in the run from the clock on
 stands_below : (h : History) → Rule h → (t : ℕ) (e : PathExchange) → h.item t ≡ Some e → t < h.clock

@@ -1,25 +1,25 @@
 -- A pass's attempt is decided: it takes effect at a stamp, or fails for a cause. And a decided one is cleared, which
 -- is no step of the protocol.
-use Rattle.std.proofs.Common.{◌≡◌, ◌≢◌, ℕ, ◌<◌, ◌≤◌, ◌⊎◌, ⊎_elim, Option, Some, None, refl, sym, ◌∙◌, subst, arith}
+use Rattle.std.proofs.Common.{◌≡◌, ◌≢◌, ℕ, ◌<◌, ◌≤◌, ◌⊎◌, ⊎_elim, refl, sym, ◌∙◌, subst, arith}
 use Rattle.pc_model.specs.declared.cell.Field.{Field}
 use Rattle.pc_model.specs.Cells.{Cells}
-use Rattle.pc_model.specs.Exchanges.{Visited, FreshNode, Exchange as PathExchange}
+use Rattle.pc_model.specs.Exchanges.{Visited, Exchange as PathExchange}
 use Rattle.pc_words.specs.declared.status.Stage.{Stage as StatusStage}
 use Rattle.pc_words.specs.declared.status.Stage.TheVariants.{Idle, Succeeded}
 use Rattle.pc_history.specs.Footprints.{IsAmong}
 use Rattle.pc_history.specs.Updates.{updated}
-use Rattle.pc_history.proofs.Updates.{on_updated, from_updated}
+use Rattle.pc_history.proofs.Updates.{from_updated}
 use Rattle.pc_rule_law.specs.Board.{Board, put}
 use Rattle.pc_rule_law.specs.Past.{Has, Past}
 use Rattle.pc_rule_law.specs.Stages.{IsOpen, IsUndecided as IsUndecidedAttempt}
 use Rattle.pc_rule_law.proofs.Updates.{at_put}
-use Rattle.pc_protocol.specs.Histories.{Cause, withdrawn, ended, changed, locked, Stage, committed, aborted, Slot, used, History}
-use Rattle.pc_protocol.specs.Histories.{IsPublished, IsUndecided, IsUsed}
+use Rattle.pc_protocol.specs.Histories.{Cause, withdrawn, ended, changed, locked, Stage, committed, aborted, History, cells_now}
+use Rattle.pc_protocol.specs.Histories.{IsPublished, IsUndecided}
 use Rattle.pc_protocol.specs.Rules.{Rule}
 use Rattle.pc_protocol.specs.Notes.{visited, drew, rival, outdated, IsTrueNote}
 use Rattle.pc_protocol.specs.Seeing.{Visits, ChangesVersion, Covers}
 use Rattle.pc_protocol.specs.Serving.{HasPassedByNotes}
-use Rattle.pc_protocol.specs.Steps.{slots_with, commit, CanCommit, abort, CanAbort}
+use Rattle.pc_protocol.specs.Steps.{commit, CanCommit, abort, CanAbort}
 use Rattle.pc_protocol.proofs.Stages.{undecided_is_published}
 use Rattle.pc_protocol.proofs.Commits.{commit_keeps}
 use Rattle.pc_protocol.proofs.Aborts.{abort_keeps}
@@ -30,12 +30,6 @@ use Rattle.pc_exchange_law.proofs.ChangeLists.{among_has}
 use Rattle.pc_exchange_law.proofs.Codes.{of_code}
 use Rattle.pc_exchange_law.proofs.TieDraws.{nothing_changes}
 use Rattle.pc_exchange_law.proofs.Statuses.{undecided_in_history, undecided_is_open, stages_moved, still_published, others_say, says_now, cause_is_told}
-
--- the slot of a fresh node is used, and so are all others that were
-pub used_with : (g : Option FreshNode) (slot : ℕ → Slot) → ((n : ℕ) → IsUsed (slot n)) → (n : ℕ)
-    → IsUsed (slots_with g slot n)
-used_with None slot each n = each n
-used_with (Some g) slot each n = on_updated slot g.node used IsUsed n (λ _. tt) (λ _. each n)
 
 module _ (b : Board) (t : Past) (h : History) (tied : IsTied b t h) (p : ℕ) (small : p < 64) where
   abbrev x : ℕ
@@ -55,7 +49,8 @@ module _ (b : Board) (t : Past) (h : History) (tied : IsTied b t h) (p : ℕ) (s
       (says_now (at_stage b p stage) st is) (others_say b t h tied p stage small)
 
   module _ (s : ℕ) (cells' plain' : Cells) (can : CanCommit h x s)
-      (same : (n : ℕ) (f : Field) → plain' n f ≡ (commit h x s).plain n f) where
+      (same : (n : ℕ) (f : Field) → plain' n f ≡ (commit h x s).plain n f)
+      (now : (n : ℕ) (f : Field) → cells' n f ≡ cells_now (commit h x s) n f) where
     committed_tied : IsTied (with_status b p (at_stage b p (Succeeded s))) (with_values t cells' plain' t.attempt t.words)
         (commit h x s)
     committed_tied = record {
@@ -65,11 +60,11 @@ module _ (b : Board) (t : Past) (h : History) (tied : IsTied b t h) (p : ℕ) (s
       references = tied.references;
       seated = tied.seated;
       plain = λ n f. sym (same n f);
+      cells = now;
       stages = decided_stages (Succeeded s) (committed s) refl;
       published = still_published b t h tied p (Succeeded s) (committed s) tt;
       exchanges = λ q c low published. tied.exchanges q c low
           (published_before (committed s) can.undecided (code q c) published);
-      used = used_with (h.op x).fresh h.slot tied.used;
       uncleared = tied.uncleared;
     }
 
@@ -86,11 +81,11 @@ module _ (b : Board) (t : Past) (h : History) (tied : IsTied b t h) (p : ℕ) (s
       references = tied.references;
       seated = tied.seated;
       plain = tied.plain;
+      cells = tied.cells;
       stages = decided_stages (stage_by cause) (aborted cause) (cause_is_told cause);
       published = still_published b t h tied p (stage_by cause) (aborted cause) tt;
       exchanges = λ q c low published. tied.exchanges q c low
           (published_before (aborted cause) can.undecided (code q c) published);
-      used = tied.used;
       uncleared = tied.uncleared;
     }
 
@@ -120,11 +115,11 @@ module _ (b : Board) (t : Past) (h : History) (tied : IsTied b t h) (p : ℕ) (c
     references = tied.references;
     seated = tied.seated;
     plain = tied.plain;
+    cells = tied.cells;
     stages = idle_stages;
     published = λ q c y low le has. tied.published q c y low (at_put b.status p (at_stage b p Idle)
         (λ r s. c ≤ s.number → c ≤ (b.status r).number) q (λ l. l) (λ _ l. l) le) has;
     exchanges = tied.exchanges;
-    used = tied.used;
     uncleared = tied.uncleared;
   }
 

@@ -18,6 +18,7 @@ use Rattle.pc_rule_law.proofs.Outcomes as Outcomes
 use Rattle.pc_protocol.specs.Histories.{History}
 use Rattle.pc_protocol.specs.Rules.{Rule}
 use Rattle.pc_protocol.specs.Steps.{commit, CanCommit}
+use Rattle.pc_exchange_law.specs.Slots.{ChangesUsed}
 use Rattle.pc_exchange_law.specs.Ties.{code, IsTied}
 use Rattle.pc_exchange_law.specs.Changes.{at_stage, MayBecome, HoldsAll, Succeeds}
 use Rattle.pc_exchange_law.specs.AttemptSteps.{BringsInstalls}
@@ -32,7 +33,7 @@ may_become z b t id n f c placing' course' moves = record {
 }
 
 -- and it brings installs as notes of attempts allow it
-module _ (sound : ℕ → Cells → Type 0) (z : Size) (b : Board) (t : Past) (id n : ℕ) (f : Field) (c : WordKind)
+module _ (sound : ℕ → Cells → Cells → Type 0) (z : Size) (b : Board) (t : Past) (id n : ℕ) (f : Field) (c : WordKind)
     (placing' : ℕ → ℕ → Placing) (course' : ℕ → ℕ → ℕ) (shared : Shared sound z b t)
     (moves : WordMoves z b t id n f c placing' course') where
   standing : (m : ℕ) (g : Field) (q k : ℕ) → b.cell m g ≡ Install q k
@@ -73,14 +74,13 @@ notes_hold b t p a noted x has u = (noted x has).1 u
 
 -- So a success is such a move of one status as the board's rule asks for. What is left to be shown is that the cells
 -- that the run leaves then are sound.
-pub success_moves : (sound : ℕ → Cells → Type 0) (z : Size) (b : Board) (t : Past) (h : History) (id p s : ℕ) (cells' : Cells)
-    → Shared sound z b t → Rule h → IsTied b t h → p < 64 → s < 2 ^ 34
-    → CanCommit h (code p (b.status p).number) s → sound z.slots cells'
-    → ((n : ℕ) (f : Field) → (commit h (code p (b.status p).number) s).plain n f ≡ cells' n f)
+pub success_moves : (sound : ℕ → Cells → Cells → Type 0) (z : Size) (b : Board) (t : Past) (h : History) (id p s : ℕ) (cells' : Cells)
+    → Shared sound z b t → Rule h → IsTied b t h → ChangesUsed h → p < 64 → s < 2 ^ 34
+    → CanCommit h (code p (b.status p).number) s → sound z.slots cells' (commit h (code p (b.status p).number) s).plain
     → StatusMoves sound z b t id p (at_stage b p (Succeeded s)) cells' (commit h (code p (b.status p).number) s).plain
     t.attempt t.words
-success_moves sound z b t h id p s cells' shared rule tied small low can sound_now same =
+success_moves sound z b t h id p s cells' shared rule tied changed small low can sound_now =
     let a : ℕ = (b.status p).number in
-    let done : Succeeds b t p a (commit h (code p a) s).plain = success_serves b t h tied p a small rule s can refl in
+    let done : Succeeds b t p a (commit h (code p a) s).plain = success_serves b t h tied p a small rule changed s can refl in
     Outcomes.succeeds sound z b t shared id p s cells' (commit h (code p a) s).plain low done.pending done.held done.gets
-    done.stays done.rises sound_now same
+    done.stays done.rises sound_now

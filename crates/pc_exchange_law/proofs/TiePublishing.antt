@@ -15,9 +15,9 @@ use Rattle.pc_protocol.specs.Rules.{Rule}
 use Rattle.pc_protocol.specs.Seeing.{Saw}
 use Rattle.pc_protocol.specs.Steps.{publish, CanPublish}
 use Rattle.pc_protocol.proofs.Publishing.{publish_keeps}
-use Rattle.pc_protocol.proofs.Stages.{none_not_some}
 use Rattle.pc_exchange_law.specs.Ties.{code, SaysOf, exchange_of, IsTied}
 use Rattle.pc_exchange_law.specs.Changes.{with_status, with_values, Leads, RaisesNodes}
+use Rattle.pc_exchange_law.specs.TieLaws.{MayMake}
 use Rattle.pc_exchange_law.proofs.Codes.{same_seat, same_number}
 use Rattle.pc_exchange_law.proofs.ChangeLists.{apart_is_once}
 use Rattle.pc_exchange_law.proofs.Statuses.{undecided_is_open, stages_moved, says_now}
@@ -90,10 +90,10 @@ module _ (b : Board) (t : Past) (h : History) (tied : IsTied b t h) (p : ℕ) (s
       references = tied.references;
       seated = tied.seated;
       plain = tied.plain;
+      cells = tied.cells;
       stages = stages_moved b t h tied p next undecided small (says_now next undecided refl) others_say;
       published = published_still;
       exchanges = exchange_still;
-      used = tied.used;
       uncleared = tied.uncleared;
     }
 
@@ -106,17 +106,17 @@ module _ (b : Board) (t : Past) (h : History) (tied : IsTied b t h) (p : ℕ) (s
 
   -- an attempt may be published where its form is right and what it visits and reads was seen, whatever the board holds
   pub may_publish : (slots c : ℕ) (x : Attempt) → c ≤ b.clock → IsFormed slots x → RaisesNodes x
-      → Saw (moments h) c (exchange_of x)
+      → Saw (moments h) c (exchange_of x) → MayMake h (exchange_of x)
       → CanPublish h (code p a) (exchange_of x) c
-  may_publish slots c x past formed raises saw = record {
+  may_publish slots c x past formed raises saw makes = record {
     is_new = next_is_new;
     past = let same : h.clock ≡ b.clock = tied.clock in omega arith;
     well_formed = record {
       once = apart_is_once x.changes formed.apart;
       raises = raises;
-      not_fresh = λ y g among is. absurd (none_not_some g is);
+      not_fresh = makes.unchanged;
     };
     saw = saw;
-    fresh = λ g is. absurd (none_not_some g is);
-    apart = λ y g k u is_g is_k. absurd (none_not_some g is_g);
+    fresh = makes.ready;
+    apart = makes.apart;
   }

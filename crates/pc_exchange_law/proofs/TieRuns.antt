@@ -1,4 +1,4 @@
--- The run of a tied board: its list, and that it leaves the plain values, which are sound where each exchange fits.
+-- The run of a tied board: its list, and that it leaves the cells, which are sound where each exchange fits.
 use Rattle.std.proofs.Common.{◌≡◌, ℕ, ◌<◌, inl, inr, ⊎_elim, [], None, Some, refl, sym, ap, ◌∙◌, subst}
 use Rattle.pc_model.specs.declared.cell.Field.{Field}
 use Rattle.pc_model.specs.Exchanges.{Exchange as PathExchange}
@@ -10,25 +10,28 @@ use Rattle.pc_rule_law.specs.Board.{Size, Board}
 use Rattle.pc_rule_law.specs.Past.{Past}
 use Rattle.pc_rule_law.specs.Values.{IsPlainValue}
 use Rattle.pc_rule_law.proofs.Values.{plain_value}
-use Rattle.pc_protocol.specs.Histories.{committed, History, cells_now, IsPublished}
+use Rattle.pc_protocol.specs.Histories.{committed, History, cells_now, IsPublished, IsSpare}
 use Rattle.pc_protocol.specs.Rules.{Rule}
 use Rattle.pc_protocol.specs.ProtocolLaws.{StandsInRun}
 use Rattle.pc_protocol.proofs.Protocol.{rule_tells, cells_stay_sound}
-use Rattle.pc_protocol.proofs.Stages.{none_not_some, some_same, committed_is_published, used_not_spare}
-use Rattle.pc_exchange_law.specs.Ties.{code, seat_in, number_in, IsStageOf, exchange_of, IsTied}
-use Rattle.pc_exchange_law.specs.TieLaws.{run_up_to, IsOfRun, maker_of, RunTells, RunIsShown, PlainValuesAreSound}
+use Rattle.pc_protocol.proofs.Stages.{none_not_some, some_same, committed_is_published}
+use Rattle.pc_exchange_law.specs.Ties.{code, seat_in, number_in, IsStageOf, exchange_of, CellsAreSound, IsTied}
+use Rattle.pc_exchange_law.specs.TieLaws.{run_up_to, IsOfRun, maker_of, RunTells, RunIsShown, RunLeavesSound}
 use Rattle.pc_exchange_law.proofs.Codes.{seat_is_small, code_of}
 
 module _ (b : Board) (t : Past) (h : History) (rule : Rule h) (tied : IsTied b t h) where
   is_list : IsListOf h.opening h.item h.clock (run_up_to h)
   is_list = (rule_tells h rule).world h.clock
 
-  -- the plain values are the cells that the run leaves
-  pub plain_is_now : (n : ℕ) (f : Field) → t.plain n f ≡ cells_now h n f
-  plain_is_now n f = sym (tied.plain n f) ∙ rule.plain_is n f (used_not_spare (h.slot n) (tied.used n))
+  -- the plain values are the cells that the run leaves, but for spares
+  pub plain_is_now : (n : ℕ) (f : Field) → (IsSpare (h.slot n) → ⊥) → t.plain n f ≡ cells_now h n f
+  plain_is_now n f no_spare = sym (tied.plain n f) ∙ rule.plain_is n f no_spare
 
-  leaves_plain : (n : ℕ) (f : Field) → cells_after h.opening (run_up_to h) n f ≡ t.plain n f
-  leaves_plain n f = (λ i. is_list.leaves i n f) ∙ sym (plain_is_now n f)
+  leaves_cells : (n : ℕ) (f : Field) → cells_after h.opening (run_up_to h) n f ≡ t.cells n f
+  leaves_cells n f = (λ i. is_list.leaves i n f) ∙ sym (tied.cells n f)
+
+  shown_cells : (n : ℕ) (f : Field) → (IsSpare (h.slot n) → ⊥) → t.cells n f ≡ t.plain n f
+  shown_cells n f no_spare = tied.cells n f ∙ sym (plain_is_now n f no_spare)
 
   stands_at : (p a s : ℕ) → p < 64 → h.stage (code p a) ≡ committed s
       → IsAmong (record { stamp = s; what = exchange_of (t.attempt p a) }) (run_up_to h)
@@ -88,7 +91,8 @@ module _ (b : Board) (t : Past) (h : History) (rule : Rule h) (tied : IsTied b t
     unmade = unmade_at;
     maker = λ y s is. ap maker_of (rule.standing y s is).0.1;
     since = λ y s is. (rule.drawn y s (rule.standing y s is).0).1;
-    leaves = leaves_plain;
+    leaves = leaves_cells;
+    shown = shown_cells;
     item_stands = λ s e item. is_list.all s e ((rule_tells h rule).item_stands s e item).below item;
     committed_stands = stands_at;
     succeeded_stands = λ p s small is. stands_at p (b.status p).number s small
@@ -97,16 +101,16 @@ module _ (b : Board) (t : Past) (h : History) (rule : Rule h) (tied : IsTied b t
   }
 
   pub run_is_shown : (form : Form) (z : Size) → RunIsShown form z b t h
-  run_is_shown form z shared n f = subst (IsPlainValue b n f (b.cell n f)) (sym (leaves_plain n f))
-      (plain_value (IsSound form) z b t shared n f)
+  run_is_shown form z shared n f no_spare = subst (IsPlainValue b n f (b.cell n f))
+      (sym (shown_cells n f no_spare) ∙ sym (leaves_cells n f)) (plain_value (CellsAreSound form) z b t shared n f)
 
-pub plain_values_are_sound : (form : Form) → PlainValuesAreSound form
-plain_values_are_sound form slots b t h charged rule tied fits sound =
+pub run_leaves_sound : (form : Form) → RunLeavesSound form
+run_leaves_sound form slots b t h charged rule tied fits sound =
     let each : (x : ℕ) → IsPublished (h.stage x) → Fits form slots (h.op x) (charged (seat_in x) (number_in x)) = λ x published.
     let back : code (seat_in x) (number_in x) ≡ x = code_of x in
     let there : IsPublished (h.stage (code (seat_in x) (number_in x))) = subst (λ (y : ℕ). IsPublished (h.stage y)) (sym back) published in
     subst (λ (e : PathExchange). Fits form slots e (charged (seat_in x) (number_in x)))
     (sym (tied.exchanges (seat_in x) (number_in x) (seat_is_small x) there) ∙ ap h.op back)
     (fits (seat_in x) (number_in x) (seat_is_small x) there) in
-    subst (IsSound form slots) (λ i n f. sym (plain_is_now b t h rule tied n f) i)
+    subst (IsSound form slots) (λ i n f. sym (tied.cells n f) i)
     (cells_stay_sound form slots h (λ x. charged (seat_in x) (number_in x)) rule each sound h.clock)

@@ -1,6 +1,6 @@
 -- What a success does, in words of the board: the words of the attempt, which all held its reference, get their new
 -- numbers, no other plain value changes, and versions rise.
-use Rattle.std.proofs.Common.{◌≡◌, ◌≢◌, ℕ, ◌<◌, ◌≤◌, Some, sym, ◌∙◌, subst, arith}
+use Rattle.std.proofs.Common.{◌≡◌, ◌≢◌, ℕ, ◌<◌, ◌≤◌, ⊎_elim, Some, sym, ◌∙◌, subst, arith}
 use Rattle.pc_model.specs.declared.cell.Field.{Field}
 use Rattle.pc_model.specs.declared.cell.Field.TheVariants.{Version}
 use Rattle.pc_model.specs.Exchanges.{Changed, Exchange as PathExchange}
@@ -8,7 +8,7 @@ use Rattle.pc_words.specs.declared.word.WordKind.TheVariants.{Exchange}
 use Rattle.pc_history.specs.Footprints.{IsAmong, IsOfWord}
 use Rattle.pc_rule_law.specs.Board.{Board}
 use Rattle.pc_rule_law.specs.Past.{Has, Past}
-use Rattle.pc_protocol.specs.Histories.{History, cells_now}
+use Rattle.pc_protocol.specs.Histories.{History, cells_now, IsUsed}
 use Rattle.pc_protocol.specs.Rules.{Rule}
 use Rattle.pc_protocol.specs.Notes.{visited}
 use Rattle.pc_protocol.specs.Steps.{Keeps, commit, CanCommit}
@@ -19,11 +19,13 @@ use Rattle.pc_protocol.proofs.Loads.{loads_tell}
 use Rattle.pc_protocol.proofs.Protocol.{rule_tells}
 use Rattle.pc_exchange_law.specs.Ties.{code, exchange_of, IsTied}
 use Rattle.pc_exchange_law.specs.Changes.{Succeeds}
+use Rattle.pc_exchange_law.specs.Slots.{ChangesUsed}
+use Rattle.pc_exchange_law.proofs.Slots.{used_or_not}
+use Rattle.pc_protocol.proofs.Slots.{slots_with-used}
 use Rattle.pc_exchange_law.proofs.Codes.{same_seat, same_number}
 use Rattle.pc_exchange_law.proofs.ChangeLists.{has_among}
 use Rattle.pc_exchange_law.proofs.Statuses.{undecided_on_board}
 use Rattle.pc_exchange_law.proofs.TieWords.{reference_is}
-use Rattle.pc_exchange_law.proofs.TieDecisions.{used_with}
 
 module _ (b : Board) (t : Past) (h : History) (tied : IsTied b t h) (p a : ℕ) (small : p < 64) where
   -- a word whose reference in the history is to the attempt holds it
@@ -34,7 +36,7 @@ module _ (b : Board) (t : Past) (h : History) (tied : IsTied b t h) (p a : ℕ) 
       let number : word.1 ≡ a = same_number word.0 word.1 p a word.2 small word.4 in
       word.3 ∙ (λ i. Exchange (seat i) (number i))
 
-  module _ (rule : Rule h) (s : ℕ) (can : CanCommit h (code p a) s) where
+  module _ (rule : Rule h) (changed : ChangesUsed h) (s : ℕ) (can : CanCommit h (code p a) s) where
     abbrev h' : History
     h' = commit h (code p a) s
 
@@ -63,15 +65,26 @@ module _ (b : Board) (t : Past) (h : History) (tied : IsTied b t h) (p a : ℕ) 
     version_before n = tied.plain n Version
 
     -- by the note that a version was seen, which stays true
-    versions_rise : (n : ℕ) → t.plain n Version ≤ h'.plain n Version
-    versions_rise n =
+    used_rises : (n : ℕ) → IsUsed (h.slot n) → t.plain n Version ≤ h'.plain n Version
+    used_rises n in_use =
         let keeps : Keeps h h' = commit_keeps h rule (code p a) s can in
         let after = keeps.notes (visited n (h.plain n Version) h.clock)
-        ((loads_tell h rule).version n (used_not_spare (h.slot n) (tied.used n))) in
+        ((loads_tell h rule).version n (used_not_spare (h.slot n) in_use)) in
         let now : h'.plain n Version ≡ cells_now h' n Version = keeps.rule.plain_is n Version
-        (used_not_spare (h'.slot n) (used_with (h.op (code p a)).fresh h.slot tied.used n)) in
+        (used_not_spare (h'.slot n) (slots_with-used (h.op (code p a)).fresh h.slot n in_use)) in
         let least : h.plain n Version ≤ cells_now h' n Version = after.1 in
         let before = version_before n in omega arith
+
+    -- a node that isn't in use has no word of the attempt
+    other_stays : (n : ℕ) → (IsUsed (h.slot n) → ⊥) → t.plain n Version ≤ h'.plain n Version
+    other_stays n not_used =
+        let stays : h'.plain n Version ≡ h.plain n Version = changes_there.others n Version (λ x among is. not_used
+        (subst (λ (m : ℕ). IsUsed (h.slot m)) is.0
+        (changed (code p a) x (undecided_is_published (h.stage (code p a)) can.undecided) among))) in
+        let before = version_before n in omega arith
+
+    versions_rise : (n : ℕ) → t.plain n Version ≤ h'.plain n Version
+    versions_rise n = ⊎_elim (used_rises n) (other_stays n) (used_or_not (h.slot n))
 
     pub success_serves : (b.status p).number ≡ a → Succeeds b t p a h'.plain
     success_serves number = record {

@@ -16,7 +16,7 @@ use Rattle.pc_protocol.specs.Notes.{clock_was, visited, read_word, verdict, outd
 use Rattle.pc_protocol.specs.Bases.{IsBased}
 use Rattle.pc_protocol.proofs.Bases.{bases_tell}
 use Rattle.pc_protocol.proofs.Loads.{loads_tell}
-use Rattle.pc_protocol.proofs.Stages.{committed_is_published, undecided_is_published, used_not_spare}
+use Rattle.pc_protocol.proofs.Stages.{committed_is_published, undecided_is_published}
 use Rattle.pc_exchange_law.specs.Ties.{code, last_stamp, reference_in, IsSeated, IsStageOf, exchange_of, IsTied}
 use Rattle.pc_exchange_law.specs.TieLaws.{BoardTells}
 use Rattle.pc_exchange_law.proofs.ChangeLists.{has_among}
@@ -24,25 +24,22 @@ use Rattle.pc_exchange_law.proofs.Codes.{of_code}
 use Rattle.pc_exchange_law.proofs.Statuses.{busy_is_published, closed_is_decided, same_worth, undecided_in_history, undecided_on_board}
 
 module _ (b : Board) (t : Past) (h : History) (rule : Rule h) (tied : IsTied b t h) where
-  no_spare : (n : ℕ) → IsSpare (h.slot n) → ⊥
-  no_spare n = used_not_spare (h.slot n) (tied.used n)
-
   says_now : (p : ℕ) → p < 64 → IsStageOf (b.status p).stage (h.stage (code p (b.status p).number))
   says_now p small = (tied.stages p (b.status p).number small).present refl
 
   clock_told : IsTrueNote h (clock_was b.clock)
   clock_told = subst (λ (c : ℕ). c ≤ h.clock) tied.clock (loads_tell h rule).time
 
-  version_told : (n : ℕ) → IsTrueNote h (visited n (t.plain n Version) b.clock)
-  version_told n = subst (λ (c : ℕ). IsTrueNote h (visited n (t.plain n Version) c)) tied.clock
+  version_told : (n : ℕ) → (IsSpare (h.slot n) → ⊥) → IsTrueNote h (visited n (t.plain n Version) b.clock)
+  version_told n no_spare = subst (λ (c : ℕ). IsTrueNote h (visited n (t.plain n Version) c)) tied.clock
       (subst (λ (v : ℕ). IsTrueNote h (visited n v h.clock)) (tied.plain n Version)
-      ((loads_tell h rule).version n (no_spare n)))
+      ((loads_tell h rule).version n no_spare))
 
-  word_told : (n v c : ℕ) (f : Field) → IsTrueNote h (visited n v c)
+  word_told : (n v c : ℕ) (f : Field) → (IsSpare (h.slot n) → ⊥) → IsTrueNote h (visited n v c)
       → IsTrueNote h (read_word n v f (t.plain n f) b.clock)
-  word_told n v c f visit = subst (λ (i : ℕ). IsTrueNote h (read_word n v f (t.plain n f) i)) tied.clock
+  word_told n v c f no_spare visit = subst (λ (i : ℕ). IsTrueNote h (read_word n v f (t.plain n f) i)) tied.clock
       (subst (λ (w : ℕ). IsTrueNote h (read_word n v f w h.clock)) (tied.plain n f)
-      ((loads_tell h rule).word n v c f (no_spare n) visit))
+      ((loads_tell h rule).word n v c f no_spare visit))
 
   -- the change of a word is one
   module _ (p a : ℕ) (small : p < 64) (published : IsPublished (h.stage (code p a))) where
@@ -100,11 +97,11 @@ module _ (b : Board) (t : Past) (h : History) (rule : Rule h) (tied : IsTied b t
 
   -- another number than the old one, in a word of an attempt that rests on its old numbers
   outdates_told : (p a : ℕ) (x : Changed) → p < 64 → a ≤ (b.status p).number → Has (t.attempt p a).changes x
-      → IsBased h (code p a) → t.plain x.node x.field ≢ x.old
+      → IsBased h (code p a) → (IsSpare (h.slot x.node) → ⊥) → t.plain x.node x.field ≢ x.old
       → IsTrueNote h (outdated (code p a) x.node)
-  outdates_told p a x small le has based other =
+  outdates_told p a x small le has based no_spare other =
       let published : IsPublished (h.stage (code p a)) = tied.published p a x small le has in
-      (bases_tell h rule).other_number (code p a) x published based (among_op p a small published x has) (no_spare x.node)
+      (bases_tell h rule).other_number (code p a) x published based (among_op p a small published x has) no_spare
       (λ same. other (sym (tied.plain x.node x.field) ∙ same))
 
   pub board_tells : BoardTells b t h

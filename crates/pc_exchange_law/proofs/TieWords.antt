@@ -18,6 +18,7 @@ use Rattle.pc_protocol.specs.Steps.{refer, CanRefer}
 use Rattle.pc_protocol.proofs.Stages.{none_not_some, some_same}
 use Rattle.pc_protocol.proofs.Words.{refer_keeps}
 use Rattle.pc_exchange_law.specs.Ties.{code, reference_in, IsSeated, IsTied}
+use Rattle.pc_exchange_law.specs.Slots.{ChangesUsed}
 use Rattle.pc_exchange_law.specs.Changes.{with_word, with_installs, Leads, MayBecome}
 use Rattle.pc_exchange_law.proofs.ChangeLists.{has_among}
 use Rattle.pc_exchange_law.proofs.Statuses.{busy_is_published, same_worth, undecided_on_board}
@@ -29,7 +30,8 @@ reference_is (Plain x) y seated is = absurd (none_not_some y is)
 reference_is (Install q k) y seated is = absurd (none_not_some y is)
 reference_is (Exchange p a) y seated is = (p, a, seated, refl, some_same (code p a) y is)
 
-module _ (z : Size) (b : Board) (t : Past) (h : History) (few : z.seats ≤ 32) (tied : IsTied b t h) where
+module _ (z : Size) (b : Board) (t : Past) (h : History) (few : z.seats ≤ 32) (tied : IsTied b t h)
+    (changed : ChangesUsed h) where
   -- a reference that holds, by the status and the attempt, refers in the history
   pub holding_refers : (n : ℕ) (f : Field) (p a : ℕ) → Holding z.seats b.status t.attempt (t.plain n f) n f p a
       → Refers h.stage h.op h.plain h.slot n f (code p a)
@@ -45,7 +47,9 @@ module _ (z : Size) (b : Board) (t : Past) (h : History) (few : z.seats ≤ 32) 
             (has_among (t.attempt p a).changes x l.2);
         is_of = (refl, refl);
         value = same_worth (b.status p).stage (h.stage (code p a)) l.0 l.1 says ho.uncleared ∙ (l.3 ∙ sym (tied.plain n f));
-        in_use = tied.used n;
+        in_use = changed (code p a) x published
+            (subst (λ (e : PathExchange). IsAmong x e.changes) (sym (tied.exchanges p a small published))
+            (has_among (t.attempt p a).changes x l.2));
       }
 
   module _ (n : ℕ) (f : Field) (c : WordKind) (may : MayBecome z b t n f c) where
@@ -82,10 +86,10 @@ module _ (z : Size) (b : Board) (t : Past) (h : History) (few : z.seats ≤ 32) 
             (λ ne. word_updated_other h.reference n f (reference_in c) m g ne ∙ tied.references m g);
         seated = λ m g. at_put_cell b.cell n f c (λ _ _ w. IsSeated w) m g (seated_by c refl) (λ _. tied.seated m g);
         plain = tied.plain;
+        cells = tied.cells;
         stages = tied.stages;
         published = tied.published;
         exchanges = tied.exchanges;
-        used = tied.used;
         uncleared = tied.uncleared;
       }
 

@@ -3,13 +3,17 @@ use Rattle.std.proofs.Common.{◌≡◌, ℕ, Bool, true, List, sym, ap, ◌∙�
 use mathlib.Core.Option.{some}
 use lib.ListN.{get_elem?}
 use Rattle.atomic_table.specs.Table.{Final, Seen}
-use Rattle.pc_model.specs.Cells.{Cells}
-use Rattle.pc_model.specs.Forms.{Form, IsSound}
+use Rattle.pc_model.specs.declared.cell.Field.TheVariants.{Version}
+use Rattle.pc_model.specs.Cells.{Cells, IsEven, IsOdd}
+use Rattle.pc_model.specs.Forms.{Form}
 use Rattle.pc_rule_law.specs.Board.{Size, Board, Represents}
 use Rattle.pc_rule_law.specs.Conditions.{IsFree}
 use Rattle.pc_rule_law.specs.Past.{Has, Past}
 use Rattle.pc_rule_law.proofs.Closings.{closed_by}
-use Rattle.pc_protocol.specs.Histories.{History}
+use Rattle.pc_protocol.specs.Histories.{History, cells_now, IsSpare}
+use Rattle.pc_protocol.specs.Rules.{Rule}
+use Rattle.pc_protocol.proofs.Stages.{spare_not_used}
+use Rattle.pc_exchange_law.specs.Ties.{CellsAreSound}
 use Rattle.pc_exchange_law.specs.Attempts.{AreScripts, AttemptNote, IsTrueAttemptNote}
 use Rattle.pc_exchange_law.specs.TieLaws.{RunTells}
 use Rattle.pc_exchange_law.specs.WholeSeats.{IsWholeClosed}
@@ -17,13 +21,19 @@ use Rattle.pc_exchange_law.specs.Wholes.{Whole, views_of, WholeKept, WholeHolds}
 use Rattle.pc_exchange_law.proofs.TieRuns.{run_tells}
 use Rattle.pc_exchange_law.proofs.WholeKeeping.{at_view, known_here}
 
+-- a node that is unmarked in the cells is no spare
+unmarked_no_spare : (h : History) → Rule h → (n : ℕ) → IsEven (cells_now h n Version) → IsSpare (h.slot n) → ⊥
+unmarked_no_spare h rule n even is_spare =
+    let odd : IsOdd (cells_now h n Version) = rule.unused n (λ u. spare_not_used (h.slot n) is_spare u) in
+    absurd (let clash : 0 ≡ 1 = sym even ∙ odd in cc)
+
 module _ (form : Form) (z : Size) where
   pub whole_closed : (b : Board) (t : Past) (h : History) (late : ℕ → Bool) (views : List Whole)
       → WholeKept form z b t h late views → (id : ℕ) (x : Whole) → get_elem? views id ≡ some x → x.view.live ≡ true
       → x.view.last ≡ true → x.view.rest ≡ 0 → IsFree x.view → (ws : List ℕ) → Represents z ws b
       → IsWholeClosed form z x.knows ws
   whole_closed b t h late views k id x at live last all free ws represents =
-      let c = closed_by (IsSound form) z b t (views_of views) id x.view ws k.kept
+      let c = closed_by (CellsAreSound form) z b t (views_of views) id x.view ws k.kept
       (at_view form z b t h late views k id x at live) live last all free represents in
       let known = known_here form z b t h late views k id x at live in
       let run : RunTells b t h = run_tells b t h k.world.rule k.world.tied in record {
@@ -36,7 +46,12 @@ module _ (form : Form) (z : Size) where
         scripts = subst (λ (u : Board). AreScripts z.slots u t t.words) (sym c.1) k.world.scripts;
         noted = subst (λ (u : Board). (n : AttemptNote) → Has x.knows.noted n → IsTrueAttemptNote u t t.words n) (sym c.1) known.noted;
         told = known.told;
-        leaves = λ n f. run.leaves n f ∙ (k.kept.shared.tied n f ∙ ap (λ (u : Cells). u n f) (sym c.2));
+        leaves = λ n f. run.leaves n f ∙ ap (λ (u : Cells). u n f) (sym c.2);
+        shown = λ n f even. let here : c.0.cells ≡ t.cells = c.2 in let values : c.0.values ≡ t.plain = c.3 in
+            ap (λ (u : Cells). u n f) values
+            ∙ (sym (run.shown n f (unmarked_no_spare h k.world.rule n
+            (subst IsEven (ap (λ (u : Cells). u n Version) here ∙ k.world.tied.cells n Version) even)))
+            ∙ ap (λ (u : Cells). u n f) (sym here));
       }
 
   -- where the last pass has taken in all others and is free

@@ -22,18 +22,19 @@ use Rattle.pc_rule_law.proofs.Keeping.{LeavesTries, tries_stay}
 use Rattle.pc_rule_law.proofs.Lists.{all_one}
 use Rattle.pc_rule_law.proofs.Stages.{open_not_idle}
 use Rattle.pc_rule_law.proofs.Updates.{put-here, at_put}
-use Rattle.pc_protocol.specs.Histories.{Cause, withdrawn, ended, changed, locked, Stage, committed, aborted, History}
+use Rattle.pc_protocol.specs.Histories.{Cause, withdrawn, ended, changed, locked, Stage, committed, aborted, History, cells_now}
 use Rattle.pc_protocol.specs.Steps.{commit, abort}
 use Rattle.pc_exchange_law.specs.Changes.{with_status, with_values, at_stage, stage_by}
 use Rattle.pc_exchange_law.specs.ExchangeConditions.{MaySucceed, MayFail}
 use Rattle.pc_exchange_law.specs.Knowing.{after_decision, after_withdrawal}
+use Rattle.pc_exchange_law.specs.OwnSlots.{OwnsSlots}
 use Rattle.pc_exchange_law.specs.Passes.{PassKnows, IsKnown}
 use Rattle.pc_exchange_law.specs.Ties.{code}
 use Rattle.pc_exchange_law.specs.Wholes.{Whole, WholeKept, WholeHolds}
 use Rattle.pc_exchange_law.specs.WholePlays.{WholeMine, StatusTried, after_decided, verdict_by, HasDecided, HasWithdrawn}
 use Rattle.pc_exchange_law.specs.WholeSteps.{whole_decides, whole_withdraws}
 use Rattle.pc_exchange_law.proofs.ExchangeSteps.{success_step, failure_step, withdraw_step}
-use Rattle.pc_exchange_law.proofs.WholeKeeping.{mine, own_here, known_here, path_kept, whole_goes}
+use Rattle.pc_exchange_law.proofs.WholeKeeping.{mine, own_here, known_here, owned_here, steps_here, path_kept, whole_goes}
 use Rattle.pc_exchange_law.proofs.WholeLooks.{whole_status_looks}
 use Rattle.pc_exchange_law.proofs.WholeSteps.{WholeGoes, retold, WholeHits, WholeMisses, whole_swapped}
 use Rattle.pc_exchange_law.proofs.WorldStatuses.{is_busy}
@@ -84,9 +85,9 @@ module _ (form : Form) (z : Size) where
       → (h' : History) (k' : PassKnows) (then : Whole → Type 0)
       → Goes form z id b t t.words h late (with_status b p (at_stage b p stage)) t' t'.words h' late
       × IsKnown (with_status b p (at_stage b p stage)) t' t'.words h' late id k'
-      → then (record x { view = after_decided x.view p (b.status p).number; knows = k' })
+      → OwnsSlots z h' id k'.own k'.slots → then (record x { view = after_decided x.view p (b.status p).number; knows = k' })
       → WholeGoes form z b views id (at_own p own_status) (packed (at_stage b p stage)) then
-  decided id x live b t h late views k at p stage lt pending busy closed t' course posted h' k' then step told =
+  decided id x live b t h late views k at p stage lt pending busy closed t' course posted h' k' then step owned told =
       let own = own_here form z b t h late views k id x at live in
       let b' : Board = with_status b p (at_stage b p stage) in
       let a : ℕ = (b.status p).number in
@@ -103,7 +104,7 @@ module _ (form : Form) (z : Size) where
         late = late;
         only = only_status b p (at_stage b p stage);
         is = ap packed here;
-        kept = whole_goes form z b t h late views k id x at live b' t' h' late y (decided_below p (a + 1) ∷ []) step
+        kept = whole_goes form z b t h late views k id x at live b' t' h' late y (decided_below p (a + 1) ∷ []) step owned
             (refl, refl, refl, refl) refl
             (subst (λ (c : ℕ → ℕ → ℕ). Own z b.install c id y.view) (sym course)
             (record { sized = own.sized; seated = own.seated; known = own.known; ahead = own.ahead; unplaced = own.unplaced }))
@@ -172,13 +173,13 @@ module _ (form : Form) (z : Size) where
       let here : at_number (b.status p).number = λ able found.
       let step = success_step form z k.kept.few id b t t.words h late k.kept.shared k.world x.view
       (own_here form z b t h late views k id x at live) (mine form z b t h late views k id x at live).noted x.knows
-      (known_here form z b t h late views k id x at live) p s small pending able in
+      (known_here form z b t h late views k id x at live) (owned_here form z b t h late views k id x at live) p s small pending able in
       let y : ℕ = code p (b.status p).number in let h' : History = commit h y s in
       decided id x live b t h late views k at p (Succeeded s) lt pending (λ i. i) (λ o. o)
-      (with_values t h'.plain h'.plain t.attempt t.words) refl refl h' (after_decision x.knows y (committed s))
+      (with_values t (cells_now h') h'.plain t.attempt t.words) refl refl h' (after_decision x.knows y (committed s))
       (λ u. SameSeat x.view u.view
       × DecidedAs x p (b.status p).number (committed s) (packed (undecided_status (b.status p).number)) (packed (b.status p)) u)
-      step ((refl, refl, refl, refl, refl), record { hit = λ _. refl; miss = λ ne. absurd (ne found) }) in
+      step ((steps_here form z b t h late views k id x at live).succeeds p s small pending able).owned ((refl, refl, refl, refl, refl), record { hit = λ _. refl; miss = λ ne. absurd (ne found) }) in
       subst at_number (ap (λ (u : Status). u.number) is) here may hit
 
   -- attempt a of pass p takes effect at the stamp s
@@ -214,13 +215,13 @@ module _ (form : Form) (z : Size) where
       let here : at_number (b.status p).number = λ able found.
       let step = failure_step form z k.kept.few id b t t.words h late k.kept.shared k.world x.view
       (own_here form z b t h late views k id x at live) (mine form z b t h late views k id x at live).noted x.knows
-      (known_here form z b t h late views k id x at live) p cause small pending in_range able in
+      (known_here form z b t h late views k id x at live) (owned_here form z b t h late views k id x at live) p cause small pending in_range able in
       let y : ℕ = code p (b.status p).number in
       decided id x live b t h late views k at p (stage_by cause) lt pending (is_busy cause) (is_closed cause) t refl refl (abort h y cause)
       (after_decision x.knows y (aborted cause))
       (λ u. SameSeat x.view u.view
       × DecidedAs x p (b.status p).number (aborted cause) (packed (undecided_status (b.status p).number)) (packed (b.status p)) u)
-      step ((refl, refl, refl, refl, refl), record { hit = λ _. refl; miss = λ ne. absurd (ne found) }) in
+      step ((steps_here form z b t h late views k id x at live).fails p cause small pending in_range able).owned ((refl, refl, refl, refl, refl), record { hit = λ _. refl; miss = λ ne. absurd (ne found) }) in
       subst at_number (ap (λ (u : Status). u.number) is) here may hit
 
   -- attempt a of pass p fails for a cause
@@ -256,13 +257,13 @@ module _ (form : Form) (z : Size) where
       let is = found_undecided b t h late views k id (b.status id).number (k.kept.shared.statuses id).0 found in
       let pending : IsOpen (b.status id).stage = subst (λ (u : Status). IsOpen u.stage) (sym is) tt in
       let step = withdraw_step form z k.kept.few id b t t.words h late k.kept.shared k.world x.view own
-      (mine form z b t h late views k id x at live).noted x.knows known pending in
+      (mine form z b t h late views k id x at live).noted x.knows known (owned_here form z b t h late views k id x at live) pending in
       let y : ℕ = code id (b.status id).number in
       decided id x live b t h late views k at id Withdrawn own.seated.1 pending (λ i. i) (λ o. o) t refl refl (abort h y withdrawn)
       (after_withdrawal x.knows y (aborted withdrawn))
       (λ u. SameSeat x.view u.view × StatusTried x id (packed (undecided_status (b.status id).number)) (packed (b.status id))
       (λ y'. y' ≡ record x { view = after_decided x.view id (b.status id).number; knows = after_withdrawal x.knows y (aborted withdrawn) }) u)
-      step ((refl, refl, refl, refl, refl), record { hit = λ _. refl; miss = λ ne. absurd (ne found) }) in
+      step ((steps_here form z b t h late views k id x at live).withdraws pending).owned ((refl, refl, refl, refl, refl), record { hit = λ _. refl; miss = λ ne. absurd (ne found) }) in
       subst at_seat (λ i. (sym own.seated.0 i, known.own.number i)) here hit
 
   -- the pass withdraws its own attempt

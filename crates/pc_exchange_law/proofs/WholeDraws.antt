@@ -18,6 +18,7 @@ use Rattle.pc_protocol.specs.Steps.{draw}
 use Rattle.pc_exchange_law.specs.Changes.{with_next_stamp}
 use Rattle.pc_exchange_law.specs.ExchangeConditions.{MayDrawFor}
 use Rattle.pc_exchange_law.specs.Knowing.{after_draw, after_refusal}
+use Rattle.pc_exchange_law.specs.OwnSlots.{OwnsSlots}
 use Rattle.pc_exchange_law.specs.Passes.{PassKnows, IsKnown}
 use Rattle.pc_exchange_law.specs.Paths.{Path, IsPathOf}
 use Rattle.pc_exchange_law.specs.Ties.{code, last_stamp}
@@ -26,7 +27,7 @@ use Rattle.pc_exchange_law.specs.WholePlays.{WholeMine, Draws}
 use Rattle.pc_exchange_law.specs.WholeSteps.{whole_draws}
 use Rattle.pc_exchange_law.proofs.ClockEnds.{clock_ends}
 use Rattle.pc_exchange_law.proofs.ExchangeSteps.{draw_step, refuse_step}
-use Rattle.pc_exchange_law.proofs.WholeKeeping.{mine, own_here, known_here, path_kept, whole_goes}
+use Rattle.pc_exchange_law.proofs.WholeKeeping.{mine, own_here, known_here, owned_here, steps_here, path_kept, whole_goes}
 use Rattle.pc_exchange_law.proofs.WholeSteps.{WholeOwes, WholeGoes, whole_allowed}
 use Rattle.pc_exchange_law.proofs.Worlds.{Goes}
 
@@ -41,9 +42,9 @@ module _ (form : Form) (z : Size) where
       (k' : PassKnows) (p : Path) (then : Whole → Type 0)
       → Goes form z id b t t.words h late (with_next_stamp b) t t.words h' late'
       × IsKnown (with_next_stamp b) t t.words h' late' id k'
-      → IsPathOf h' id p → then (record x { knows = k'; path = p })
+      → OwnsSlots z h' id k'.own k'.slots → IsPathOf h' id p → then (record x { knows = k'; path = p })
       → WholeGoes form z b views id at_clock ((b.clock + 1) % 2 ^ 64) then
-  drawn id x live b t h late views k at h' late' k' p then step path told =
+  drawn id x live b t h late views k at h' late' k' p then step owned path told =
       let own = own_here form z b t h late views k id x at live in
       let b' : Board = with_next_stamp b in
       let y : Whole = record x { knows = k'; path = p } in record {
@@ -54,7 +55,7 @@ module _ (form : Form) (z : Size) where
         late = late';
         only = only_clock b (suc b.clock);
         is = next_clock b.clock (clock_ends.fits z.seats b.clock late k.kept.few k.world.clock);
-        kept = whole_goes form z b t h late views k id x at live b' t h' late' y [] step (refl, refl, refl, refl) refl
+        kept = whole_goes form z b t h late views k id x at live b' t h' late' y [] step owned (refl, refl, refl, refl) refl
             (record { sized = own.sized; seated = own.seated; known = own.known; ahead = own.ahead; unplaced = own.unplaced })
             (λ no. let was = (mine form z b t h late views k id x at live).tries live no in (
               was.0,
@@ -75,20 +76,20 @@ module _ (form : Form) (z : Size) where
       let same : h.clock ≡ b.clock = k.world.tied.clock in
       ⊎_elim
       (λ early. let step = draw_step form z k.kept.few id b t t.words h late k.kept.shared k.world x.view own noted x.knows known
-      p a may in
+      (owned_here form z b t h late views k id x at live) p a may in
       drawn id x live b t h late views k at (draw h (for_exchange (code p a))) step.0 (after_draw x.knows (code p a) b.clock) x.path
       (λ y. SameSeat x.view y.view × Draws x b.clock y at_clock)
       (subst (λ (s : ℕ). Goes form z id b t t.words h late (with_next_stamp b) t t.words (draw h (for_exchange (code p a))) step.0
       × IsKnown (with_next_stamp b) t t.words (draw h (for_exchange (code p a))) step.0 id (after_draw x.knows (code p a) s))
-      same step.1) (path_kept form z b t h late views k id x at live (draw h (for_exchange (code p a))) step.1.0.keeps step.1.0.unread)
+      same step.1) ((steps_here form z b t h late views k id x at live).draws p a may).1.owned (path_kept form z b t h late views k id x at live (draw h (for_exchange (code p a))) step.1.0.keeps step.1.0.unread)
       ((refl, refl, refl, refl, refl), record { drawn = λ _. refl; refused = λ late_now. absurd (omega arith) }))
       (λ late_now. let step = refuse_step form z k.kept.few id b t t.words h late k.kept.shared k.world x.view own noted x.knows
-      known may.ready in
+      known (owned_here form z b t h late views k id x at live) may.ready in
       drawn id x live b t h late views k at (draw h (for_read id)) step.0 (after_refusal x.knows b.clock) x.path
       (λ y. SameSeat x.view y.view × Draws x b.clock y at_clock)
       (subst (λ (s : ℕ). Goes form z id b t t.words h late (with_next_stamp b) t t.words (draw h (for_read id)) step.0
       × IsKnown (with_next_stamp b) t t.words (draw h (for_read id)) step.0 id (after_refusal x.knows s))
-      same step.1) (path_kept form z b t h late views k id x at live (draw h (for_read id)) step.1.0.keeps step.1.0.unread)
+      same step.1) ((steps_here form z b t h late views k id x at live).refuses may.ready).1.owned (path_kept form z b t h late views k id x at live (draw h (for_read id)) step.1.0.keeps step.1.0.unread)
       ((refl, refl, refl, refl, refl), record { drawn = λ early. absurd (omega arith); refused = λ _. refl }))
       (cases_lt b.clock last_stamp)
 

@@ -3,7 +3,7 @@ use Rattle.std.proofs.Common.{◌≡◌, ◌≢◌, ℕ, ◌<◌, ◌≤◌, Boo
 use mathlib.Core.Option.{some}
 use lib.ListN.{get_elem?}
 use Rattle.atomic_table.proofs.Lists.{at_map}
-use Rattle.pc_model.specs.Forms.{Form, IsSound}
+use Rattle.pc_model.specs.Forms.{Form}
 use Rattle.pc_rule_law.specs.Board.{Size, Board, descriptor_words}
 use Rattle.pc_rule_law.specs.Past.{Past, Describes}
 use Rattle.pc_rule_law.specs.Stages.{IsIdle}
@@ -14,7 +14,10 @@ use Rattle.pc_rule_law.proofs.Lists.{each_moved, below_length}
 use Rattle.pc_protocol.specs.Histories.{History}
 use Rattle.pc_protocol.specs.Owned.{IsUnread}
 use Rattle.pc_protocol.specs.Steps.{Keeps}
-use Rattle.pc_exchange_law.specs.Attempts.{Scripts, AreScripts}
+use Rattle.pc_exchange_law.specs.Attempts.{Scripts, OwnAttempt, AreScripts}
+use Rattle.pc_exchange_law.specs.AttemptSteps.{first_attempt}
+use Rattle.pc_exchange_law.specs.OwnSlots.{OwnSlots, first_slots, OwnsSlots}
+use Rattle.pc_exchange_law.specs.Ties.{CellsAreSound}
 use Rattle.pc_exchange_law.specs.ExchangeLaws.{Comes, ExchangeStepsGoOn}
 use Rattle.pc_exchange_law.specs.Passes.{PassKnows, IsKnown}
 use Rattle.pc_exchange_law.specs.Paths.{IsPathOf}
@@ -68,6 +71,9 @@ module _ (form : Form) (z : Size) (b : Board) (t : Past) (h : History) (late : �
   pub known_here : IsKnown b t t.words h late id x.knows
   known_here = k.known id x at live
 
+  pub owned_here : OwnsSlots z h id x.knows.own x.knows.slots
+  owned_here = k.owned id x at live
+
   pub path_here : IsPathOf h id x.path
   path_here = k.paths id x at live
 
@@ -78,7 +84,7 @@ module _ (form : Form) (z : Size) (b : Board) (t : Past) (h : History) (late : �
   -- from what the pass knows, each kind of step goes on
   pub steps_here : ExchangeStepsGoOn form z id b t t.words h late x.view x.knows
   steps_here = exchange_steps_go_on form z id b t t.words h late x.view x.knows k.kept.few k.kept.shared k.world own_here
-      mine.noted known_here
+      mine.noted known_here owned_here
 
   -- the seat of a view is one of those that were made
   made : (j : ℕ) (y : Whole) → get_elem? views j ≡ some y → j < t.count
@@ -86,29 +92,33 @@ module _ (form : Form) (z : Size) (b : Board) (t : Past) (h : History) (late : �
       (below_length (views_of views) j y.view (at_map (λ (u : Whole). u.view) views j y at_j))
 
   -- a look: the rule of installs holds with a later view, and it is so what the pass knows and has visited then
-  pub whole_looked : (y : Whole) → Kept (IsSound form) z b t (set (views_of views) id y.view)
-      → IsKnown b t t.words h late id y.knows → IsPathOf h id y.path
+  pub whole_looked : (y : Whole) → Kept (CellsAreSound form) z b t (set (views_of views) id y.view)
+      → IsKnown b t t.words h late id y.knows → (y.knows.own ≡ x.knows.own) × (y.knows.slots ≡ x.knows.slots) → IsPathOf h id y.path
       → WholeKept form z b t h late (set views id y)
-  whole_looked y kept known path = record {
-    kept = subst (Kept (IsSound form) z b t) (sym (views_set views id y)) kept;
+  whole_looked y kept known same path = record {
+    kept = subst (Kept (CellsAreSound form) z b t) (sym (views_set views id y)) kept;
     world = k.world;
     known = each_moved views id y (λ j u. u.view.live ≡ true → IsKnown b t t.words h late j u.knows)
         (λ j u. u.view.live ≡ true → IsKnown b t t.words h late j u.knows) k.known (λ _. known) (λ j u _ _ was. was);
     paths = each_moved views id y (λ j u. u.view.live ≡ true → IsPathOf h j u.path) (λ j u. u.view.live ≡ true → IsPathOf h j u.path)
         k.paths (λ _. path) (λ j u _ _ was. was);
+    owned = each_moved views id y (λ j u. u.view.live ≡ true → OwnsSlots z h j u.knows.own u.knows.slots)
+        (λ j u. u.view.live ≡ true → OwnsSlots z h j u.knows.own u.knows.slots) k.owned
+        (λ _. subst (λ (i : OwnAttempt × OwnSlots). OwnsSlots z h id i.0 i.1) (λ i. (sym same.0 i, sym same.1 i)) owned_here)
+        (λ j u _ _ was. was);
     unmade = k.unmade;
+    unowned = k.unowned;
     none_given = k.none_given;
-    lawful = k.lawful;
   }
 
   -- any other step of the pass
   pub whole_after : (b' : Board) (t' : Past) (h' : History) (late' : ℕ → Bool) (y : Whole)
-      → Kept (IsSound form) z b' t' (set (views_of views) id y.view) → t'.count ≡ t.count → t'.posted ≡ t.posted
+      → Kept (CellsAreSound form) z b' t' (set (views_of views) id y.view) → t'.count ≡ t.count → t'.posted ≡ t.posted
       → Comes form z id b t t.words h late b' t' t'.words h' late' y.knows → IsPathOf h' id y.path
       → WholeKept form z b' t' h' late' (set views id y)
   whole_after b' t' h' late' y kept count posted c path = let few : z.seats ≤ 32 = k.kept.few in
       let room : t.count ≤ z.seats = k.kept.room in record {
-        kept = subst (Kept (IsSound form) z b' t') (sym (views_set views id y)) kept;
+        kept = subst (Kept (CellsAreSound form) z b' t') (sym (views_set views id y)) kept;
         world = c.world;
         known = each_moved views id y (λ j u. u.view.live ≡ true → IsKnown b t t.words h late j u.knows)
             (λ j u. u.view.live ≡ true → IsKnown b' t' t'.words h' late' j u.knows) k.known (λ _. c.known)
@@ -117,24 +127,30 @@ module _ (form : Form) (z : Size) (b : Board) (t : Past) (h : History) (late : �
         paths = each_moved views id y (λ j u. u.view.live ≡ true → IsPathOf h j u.path)
             (λ j u. u.view.live ≡ true → IsPathOf h' j u.path) k.paths (λ _. path)
             (λ j u ne at_j was alive. path_stays h h' c.keeps j u.path (was alive) (c.unread j));
+        owned = each_moved views id y (λ j u. u.view.live ≡ true → OwnsSlots z h j u.knows.own u.knows.slots)
+            (λ j u. u.view.live ≡ true → OwnsSlots z h' j u.knows.own u.knows.slots) k.owned (λ _. c.owned)
+            (λ j u ne at_j was alive. c.stays j u.knows.own u.knows.slots (let lt = made j u at_j in omega arith) ne (was alive));
         unmade = λ j le lt. let old : t.count ≤ j = subst (λ (i : ℕ). i ≤ j) count le in
-            known_after form z id b t t.words h late b' t' t'.words h' late' y.knows c j (knows_nothing z.starts.attempt)
+            known_after form z id b t t.words h late b' t' t'.words h' late' y.knows c j (knows_nothing z j)
             (omega arith) (λ e. let below = made id x at in absurd (omega arith)) (k.unmade j old lt);
+        unowned = λ j le lt. let old : t.count ≤ j = subst (λ (i : ℕ). i ≤ j) count le in
+            c.stays j (first_attempt z.starts.attempt) (first_slots z j) (omega arith)
+            (λ e. let below = made id x at in absurd (omega arith)) (k.unowned j old lt);
         none_given = posted ∙ k.none_given;
-        lawful = k.lawful;
       }
 
   -- a step of an exchange, with its own view and these notes more
   pub whole_goes : (b' : Board) (t' : Past) (h' : History) (late' : ℕ → Bool) (y : Whole) (more : List Note)
       → Goes form z id b t t.words h late b' t' t'.words h' late' × IsKnown b' t' t'.words h' late' id y.knows
+      → OwnsSlots z h' id y.knows.own y.knows.slots
       → (y.view.live ≡ x.view.live) × (y.view.seat ≡ x.view.seat) × (y.view.last ≡ x.view.last)
       × (y.view.rest ≡ x.view.rest)
       → y.view.notes ≡ more ++ x.view.notes → Own z b'.install t'.course id y.view
       → (y.view.posted ≡ false → (t'.posted ≡ false) × OwnTries z.slots b' id y.view.attempt)
       → AllNotes (NoteHolds z b' t') more → IsPathOf h' id y.path
       → WholeKept form z b' t' h' late' (set views id y)
-  whole_goes b' t' h' late' y more step same notes own tries noted path = whole_after b' t' h' late' y
-      (kept_after (IsSound form) z b t (views_of views) id x.view b' t' y.view more k.kept at_view live record {
+  whole_goes b' t' h' late' y more step owned same notes own tries noted path = whole_after b' t' h' late' y
+      (kept_after (CellsAreSound form) z b t (views_of views) id x.view b' t' y.view more k.kept at_view live record {
         same = same;
         notes = notes;
         grows = step.0.grows;
@@ -144,4 +160,4 @@ module _ (form : Form) (z : Size) (b : Board) (t : Past) (h : History) (late : �
         tries = tries;
         noted = noted;
       }) step.0.leaves.count step.0.leaves.posted
-      (comes form z id b t t.words h late b' t' t'.words h' late' y.knows step) path
+      (comes form z id b t t.words h late b' t' t'.words h' late' y.knows step owned) path

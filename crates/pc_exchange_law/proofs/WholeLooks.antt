@@ -5,8 +5,8 @@ use Rattle.std.proofs.lemmas.Bool.{cases_lt}
 use mathlib.Core.Option.{none}
 use Rattle.atomic_table.specs.Table.{step, Allows}
 use Rattle.pc_model.specs.declared.cell.Field.{Field}
-use Rattle.pc_model.specs.Exchanges.{Exchange as PathExchange}
 use Rattle.pc_model.specs.Forms.{Form, IsSound}
+use Rattle.pc_model.specs.Exchanges.{Exchange as PathExchange}
 use Rattle.pc_words.specs.declared.word.WordKind.{WordKind}
 use Rattle.pc_words.specs.declared.word.WordKind.TheVariants.{Plain}
 use Rattle.pc_words.specs.declared.status.Status.{Status}
@@ -22,12 +22,13 @@ use Rattle.pc_rule_law.proofs.ClockLooks.{clock_looks}
 use Rattle.pc_rule_law.proofs.DescriptorLooks.{word_looks}
 use Rattle.pc_rule_law.proofs.InstallLooks.{install_looks}
 use Rattle.pc_rule_law.proofs.StatusLooks.{status_looks}
-use Rattle.pc_protocol.specs.Histories.{withdrawn, ended, aborted, History}
-use Rattle.pc_protocol.specs.Notes.{published, verdict, outdated, IsTrueNote}
+use Rattle.pc_protocol.specs.Histories.{withdrawn, ended, aborted, History, IsUsed}
+use Rattle.pc_protocol.specs.Notes.{verdict, IsTrueNote, published, outdated}
+use Rattle.pc_protocol.proofs.Stages.{used_not_spare}
 use Rattle.pc_protocol.specs.Seeing.{Covers}
 use Rattle.pc_exchange_law.proofs.SeenStamps.{seen_below}
 use Rattle.pc_exchange_law.specs.Knowing.{IsAboveSeen}
-use Rattle.pc_exchange_law.specs.Ties.{code, last_stamp}
+use Rattle.pc_exchange_law.specs.Ties.{code, last_stamp, CellsAreSound}
 use Rattle.pc_exchange_law.specs.Knowing.{LoadsTellPasses, StatusSeen, WordSeen, after_clock}
 use Rattle.pc_exchange_law.specs.Passes.{PassKnows, IsKnown}
 use Rattle.pc_exchange_law.specs.Paths.{read_of}
@@ -56,14 +57,14 @@ module _ (form : Form) (z : Size) where
   pub whole_clock_looks : (id : ℕ) (x : Whole) → x.view.live ≡ true
       → WholeLooks form z id x at_clock (λ r y. SameSeat x.view y.view × SeesClock x r y at_clock)
   whole_clock_looks id x live b t h late views k at =
-      let low = clock_looks (IsSound form) z id x.view live b t (views_of views) k.kept
+      let low = clock_looks (CellsAreSound form) z id x.view live b t (views_of views) k.kept
       (at_view form z b t h late views k id x at live) in
       let e = is_early b.clock in
       let y : Whole = record x { view = low.0; knows = after_clock x.knows b.clock (read_of x.path) e.0 } in (
         y,
         whole_looked form z b t h late views k id x at live y low.1
             ((tells b t h late views k id x.knows (known_here form z b t h late views k id x at live)).clock (read_of x.path) e.0
-            (path_here form z b t h late views k id x at live).noted e.1) (path_here form z b t h late views k id x at live),
+            (path_here form z b t h late views k id x at live).noted e.1) (refl, refl) (path_here form z b t h late views k id x at live),
         (
           low.2.0,
           (
@@ -96,11 +97,11 @@ module _ (form : Form) (z : Size) where
       → WholeLooks form z id x (at_own p (own_word place))
       (λ r y. SameSeat x.view y.view × SeesWord x r y (at_own p (own_word place)))
   whole_word_looks id x p place live in_p b t h late views k at =
-      let low = word_looks (IsSound form) z id x.view p place live in_p b t (views_of views) k.kept
+      let low = word_looks (CellsAreSound form) z id x.view p place live in_p b t (views_of views) k.kept
       (at_view form z b t h late views k id x at live) in
       let learnt = (tells b t h late views k id x.knows (known_here form z b t h late views k id x at live)).descriptor p place in
       let y : Whole = record x { view = low.0; knows = learnt.0 } in
-      (y, whole_looked form z b t h late views k id x at live y low.1 learnt.2 (path_here form z b t h late views k id x at live), (low.2.0, (low.2.1, learnt.1, refl, refl)))
+      (y, whole_looked form z b t h late views k id x at live y low.1 learnt.2 (learnt.1.learns.own, learnt.1.learns.slots) (path_here form z b t h late views k id x at live), (low.2.0, (low.2.1, learnt.1, refl, refl)))
 
   pub whole_load_word : (slots id : ℕ) (me : WholeMine) (p place : ℕ) → me.0.view.size ≡ z → me.0.view.live ≡ true
       → Inside z (at_own p (own_word place))
@@ -123,13 +124,13 @@ module _ (form : Form) (z : Size) where
       (λ r y. SameSeat x.view y.view × SeesStatus x r y (at_own p own_status))
   whole_status_looks id x p live in_p b t h late views k at =
       let few : z.seats ≤ 32 = k.kept.few in let lt = in_p.0 in
-      let low = status_looks (IsSound form) z id x.view p live in_p b t (views_of views) k.kept
+      let low = status_looks (CellsAreSound form) z id x.view p live in_p b t (views_of views) k.kept
       (at_view form z b t h late views k id x at live) in
       let learnt = (tells b t h late views k id x.knows (known_here form z b t h late views k id x at live)).status p (omega arith) in
       let y : Whole = record { view = low.0; knows = learnt.0; aim = (p, (b.status p).number); path = x.path } in
       let same : unpacked (packed (b.status p)) ≡ b.status p = unpacked_packed (b.status p) (k.kept.shared.statuses p) in (
         y,
-        whole_looked form z b t h late views k id x at live y low.1 learnt.2 (path_here form z b t h late views k id x at live),
+        whole_looked form z b t h late views k id x at live y low.1 learnt.2 (learnt.1.learns.own, learnt.1.learns.slots) (path_here form z b t h late views k id x at live),
         (
           low.2.0,
           (
@@ -156,11 +157,11 @@ module _ (form : Form) (z : Size) where
       → WholeLooks form z id x (at_own q (own_install place))
       (λ r y. SameSeat x.view y.view × SeesInstall x r y (at_own q (own_install place)))
   whole_install_looks id x q place live in_p b t h late views k at =
-      let low = install_looks (IsSound form) z id x.view q place live in_p b t (views_of views) k.kept
+      let low = install_looks (CellsAreSound form) z id x.view q place live in_p b t (views_of views) k.kept
       (at_view form z b t h late views k id x at live) in
       let y : Whole = record x { view = low.0 } in (
         y,
-        whole_looked form z b t h late views k id x at live y low.1 (known_here form z b t h late views k id x at live) (path_here form z b t h late views k id x at live),
+        whole_looked form z b t h late views k id x at live y low.1 (known_here form z b t h late views k id x at live) (refl, refl) (path_here form z b t h late views k id x at live),
         (low.2.0, (low.2.1, refl, refl, refl)),
       )
 
@@ -172,7 +173,7 @@ module _ (form : Form) (z : Size) where
       (SeesInstall me.0) in_p sized (whole_install_looks id me.0 q place live in_p)
 
   -- a plain word has the plain value
-  pub plain_there : (b : Board) (t : Past) → Shared (IsSound form) z b t → (n : ℕ) (f : Field) (v : ℕ) → b.cell n f ≡ Plain v
+  pub plain_there : (b : Board) (t : Past) → Shared (CellsAreSound form) z b t → (n : ℕ) (f : Field) (v : ℕ) → b.cell n f ≡ Plain v
       → t.plain n f ≡ v
   plain_there b t s n f v is = sym (subst (CellOk z.seats b.status t.attempt t.placing t.course (t.plain n f) n f) is
       (s.each_cell n f))
@@ -180,7 +181,8 @@ module _ (form : Form) (z : Size) where
   -- what a word of a node tells beside, by the number that it shows
   pub word_seen : (b : Board) (t : Past) (h : History) (late : ℕ → Bool) (views : List Whole)
       → WholeKept form z b t h late views → (id : ℕ) (k : PassKnows) → IsKnown b t t.words h late id k → (n : ℕ) (f : Field)
+      → IsUsed (h.slot n)
       → (k' : PassKnows) × WordSeen k n f (kind (raw (b.cell n f))) k' × IsKnown b t t.words h late id k'
-  word_seen b t h late views w id k known n f =
-      let learnt = (tells b t h late views w id k known).word n f (plain_there b t w.kept.shared n f) in
+  word_seen b t h late views w id k known n f in_use =
+      let learnt = (tells b t h late views w id k known).word n f (used_not_spare (h.slot n) in_use) (plain_there b t w.kept.shared n f) in
       (learnt.0, subst (λ (c : WordKind). WordSeen k n f c learnt.0) (sym (kind_raw (b.cell n f) (w.kept.shared.ranges n f))) learnt.1, learnt.2)

@@ -16,10 +16,13 @@ use Rattle.pc_exchange_law.specs.AttemptSteps.{no_scripts}
 use Rattle.pc_exchange_law.specs.Attempts.{Scripts}
 use Rattle.pc_exchange_law.specs.Passes.{IsKnown}
 use Rattle.pc_exchange_law.specs.Paths.{IsPathOf}
-use Rattle.pc_exchange_law.specs.Ties.{last_stamp}
+use Rattle.pc_exchange_law.specs.Ties.{last_stamp, CellsAreSound}
 use Rattle.pc_exchange_law.specs.TieLaws.{opening_history}
 use Rattle.pc_exchange_law.specs.WholeSeats.{first_whole}
-use Rattle.pc_exchange_law.specs.Wholes.{knows_nothing, HasEvenSentinel, WholeKept, WholeHolds}
+use Rattle.pc_exchange_law.specs.Wholes.{knows_nothing, WholeKept, WholeHolds}
+use Rattle.pc_exchange_law.specs.OwnSlots.{OwnsSlots}
+use Rattle.pc_exchange_law.specs.Slots.{SoundIsLinked}
+use Rattle.pc_exchange_law.proofs.OwnSlots.{slots_open}
 use Rattle.pc_exchange_law.specs.Worlds.{World}
 use Rattle.pc_exchange_law.proofs.Passes.{world_opens, known_at_opening}
 use Rattle.pc_exchange_law.proofs.Paths.{empty_path}
@@ -46,27 +49,29 @@ module _ (form : Form) (z : Size) where
   scripts_open : no_scripts ≡ opening_words []
   scripts_open = λ i p a place. sym (none_written p a place) i
 
-  known0 : (j : ℕ) → IsKnown b0 t0 t0.words h0 (λ i. false) j (knows_nothing z.starts.attempt)
-  known0 j = subst (λ (w : Scripts). IsKnown b0 t0 w h0 (λ i. false) j (knows_nothing z.starts.attempt)) scripts_open
+  known0 : (j : ℕ) → IsKnown b0 t0 t0.words h0 (λ i. false) j (knows_nothing z j)
+  known0 j = subst (λ (w : Scripts). IsKnown b0 t0 w h0 (λ i. false) j (knows_nothing z j)) scripts_open
       (known_at_opening form z cells j)
 
-  pub whole_opens : HasEvenSentinel form → MayOpen (IsSound form) z cells false [] → z.starts.stamp ≤ last_stamp
+  pub whole_opens : SoundIsLinked form → MayOpen (IsSound form) z cells false [] → z.starts.stamp ≤ last_stamp
       → WholeKept form z b0 t0 h0 (λ i. false) (first_whole z ∷ [])
   whole_opens lawful may early = record {
-    kept = opens (IsSound form) z b0 cells (opening_attempt []) (opening_words []) false []
-        (may_open (IsSound form) z cells false [] may);
+    kept = opens (CellsAreSound form) z b0 cells (opening_attempt []) (opening_words []) false []
+        (may_open (CellsAreSound form) z cells false [] may);
     world = subst (λ (w : Scripts). World form z b0 t0 w h0 (λ i. false)) scripts_open
-        (world_opens form z cells (λ n f. refl) may.sound_cells early);
+        (world_opens form z cells (λ n f. refl) may.sound_cells early lawful);
     known = each_one (first_whole z) (λ j u. u.view.live ≡ true → IsKnown b0 t0 t0.words h0 (λ i. false) j u.knows)
         (λ _. known0 0);
-    paths = each_one (first_whole z) (λ j u. u.view.live ≡ true → IsPathOf h0 j u.path) (λ _. empty_path h0 0 true);
+    paths = each_one (first_whole z) (λ j u. u.view.live ≡ true → IsPathOf h0 j u.path) (λ _. empty_path h0 0 false);
+    owned = each_one (first_whole z) (λ j u. u.view.live ≡ true → OwnsSlots z h0 j u.knows.own u.knows.slots)
+        (λ _. slots_open z cells z.starts.stamp 0);
     unmade = λ j _ _. known0 j;
+    unowned = λ j _ _. slots_open z cells z.starts.stamp j;
     none_given = refl;
-    lawful = lawful;
   }
 
   -- the words of the opening's board, with one pass
-  pub whole_opening_holds : (ws : List ℕ) → HasEvenSentinel form → MayOpen (IsSound form) z cells false [] → z.starts.stamp ≤ last_stamp
+  pub whole_opening_holds : (ws : List ℕ) → SoundIsLinked form → MayOpen (IsSound form) z cells false [] → z.starts.stamp ≤ last_stamp
       → Represents z ws b0
       → WholeHolds form z (opening ws [] (first_whole z))
   whole_opening_holds ws lawful may early represents = record {

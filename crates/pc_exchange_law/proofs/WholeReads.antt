@@ -6,14 +6,16 @@ use mathlib.Core.Option.{some, none}
 use lib.ListN.{get_elem?}
 use Rattle.atomic_table.specs.Table.{step, Allows}
 use Rattle.atomic_table.proofs.Lists.{set_here}
+use Rattle.pc_model.specs.declared.cell.Field.{Field}
 use Rattle.pc_model.specs.declared.cell.Field.TheVariants.{Version}
 use Rattle.pc_model.specs.Exchanges.{Visited, Exchange as PathExchange}
-use Rattle.pc_model.specs.Forms.{Form, IsSound}
+use Rattle.pc_model.specs.Forms.{Form}
 use Rattle.pc_words.specs.declared.word.WordKind.{WordKind}
 use Rattle.pc_words.specs.declared.word.WordKind.TheVariants.{Plain, Install, Exchange}
 use Rattle.pc_words.specs.Words.{raw, kind}
 use Rattle.pc_words.proofs.Words.{kind_raw}
 use Rattle.pc_history.proofs.Updates.{updated_here}
+use Rattle.pc_history.specs.Footprints.{IsAmong}
 use Rattle.pc_rule_law.specs.Board.{Size, Board, at_clock, at_cell, address, Inside}
 use Rattle.pc_rule_law.specs.Past.{Has, Past}
 use Rattle.pc_rule_law.specs.Plays.{IsNotedSince, IsLater, SameSeat}
@@ -21,15 +23,15 @@ use Rattle.pc_rule_law.specs.Rule.{Kept}
 use Rattle.pc_rule_law.specs.Views.{clean, View, NoteHolds}
 use Rattle.pc_rule_law.proofs.Keeping.{noted_more}
 use Rattle.pc_rule_law.proofs.Lists.{all_more, all_none, below_length, each_moved, has_first, has_later}
-use Rattle.pc_protocol.specs.Histories.{for_read, committed, History}
-use Rattle.pc_protocol.specs.Notes.{Found, Note as RunNote, value, clock_was, looked, drew, verdict, in_run, IsTrueNote}
+use Rattle.pc_protocol.specs.Histories.{for_read, History, cells_now, IsUsed}
+use Rattle.pc_protocol.specs.Notes.{Found, Note as RunNote, value, clock_was, looked, in_use, in_run, IsTrueNote}
 use Rattle.pc_protocol.specs.Owned.{IsUnread}
-use Rattle.pc_protocol.specs.Rules.{Rule}
-use Rattle.pc_protocol.specs.Steps.{Keeps, draw, take_read}
+use Rattle.pc_protocol.specs.Steps.{Keeps, draw, take_read, CanRead}
 use Rattle.pc_protocol.specs.Telling.{found_in}
 use Rattle.pc_protocol.proofs.Bases.{bases_still}
 use Rattle.pc_protocol.proofs.Loads.{loads_tell}
 use Rattle.pc_protocol.proofs.Owned.{steps_keep_owned}
+use Rattle.pc_protocol.proofs.Reading as Reading
 use Rattle.pc_protocol.proofs.Reading.{read_keeps}
 use Rattle.pc_protocol.proofs.Stages.{used_not_spare}
 use Rattle.pc_exchange_law.proofs.SeenStamps.{seen_below}
@@ -38,8 +40,8 @@ use Rattle.pc_exchange_law.specs.Changes.{with_next_stamp}
 use Rattle.pc_exchange_law.specs.Knowing.{with_more, Learns, IsAboveSeen, after_read_draw, after_refusal}
 use Rattle.pc_exchange_law.specs.Passes.{PassKnows, IsKnown}
 use Rattle.pc_exchange_law.specs.Paths.{Path, read_of, IsPathOf, MayCheck, with_stamp, with_left, without_stamp}
-use Rattle.pc_exchange_law.specs.Ties.{last_stamp, reference_in, IsTied}
-use Rattle.pc_exchange_law.specs.Wholes.{Whole, views_of, WholeKept, WholeHolds}
+use Rattle.pc_exchange_law.specs.Ties.{last_stamp, reference_in, IsTied, CellsAreSound}
+use Rattle.pc_exchange_law.specs.Wholes.{Whole, views_of, knows_nothing, WholeKept, WholeHolds}
 use Rattle.pc_exchange_law.specs.WholePlays.{WholeMine, CellSeen, DrawsRead, ChecksVisit}
 use Rattle.pc_exchange_law.specs.WholeSteps.{whole_draws_read, whole_checks}
 use Rattle.pc_exchange_law.specs.Worlds.{World}
@@ -49,7 +51,11 @@ use Rattle.pc_exchange_law.proofs.Paths.{path_stays, path_used, check_passes, st
 use Rattle.pc_exchange_law.proofs.SeenPaths.{paths_still}
 use Rattle.pc_exchange_law.proofs.WholeCells.{cell_looks_on}
 use Rattle.pc_exchange_law.proofs.WholeDraws.{drawn}
-use Rattle.pc_exchange_law.proofs.WholeKeeping.{views_set, at_view, mine, own_here, known_here, path_here, path_kept}
+use Rattle.pc_exchange_law.proofs.OwnSlots.{same_slots}
+use Rattle.pc_exchange_law.proofs.Slots.{take_read_slots}
+use Rattle.pc_exchange_law.proofs.Worlds.{linked_now}
+use Rattle.pc_exchange_law.specs.OwnSlots.{OwnsSlots}
+use Rattle.pc_exchange_law.proofs.WholeKeeping.{views_set, at_view, mine, own_here, known_here, owned_here, steps_here, path_here, path_kept}
 use Rattle.pc_exchange_law.proofs.WholeLooks.{plain_there}
 use Rattle.pc_exchange_law.proofs.WholeSteps.{WholeGoes, WholeOwes, whole_allowed}
 use Rattle.pc_exchange_law.proofs.WordsSeen.{seen_still}
@@ -85,22 +91,23 @@ module _ (form : Form) (z : Size) where
   whole_read_draw_owes id x live ready b t h late views k at =
       let known = known_here form z b t h late views k id x at live in
       let step = refuse_step form z k.kept.few id b t t.words h late k.kept.shared k.world x.view
-      (own_here form z b t h late views k id x at live) (mine form z b t h late views k id x at live).noted x.knows known ready in
+      (own_here form z b t h late views k id x at live) (mine form z b t h late views k id x at live).noted x.knows known (owned_here form z b t h late views k id x at live) ready in
       let same : h.clock ≡ b.clock = k.world.tied.clock in
       let h' : History = draw h (for_read id) in let b' : Board = with_next_stamp b in
       let then : IsKnown b' t t.words h' step.0 id (after_refusal x.knows b.clock) = subst
       (λ (s : ℕ). IsKnown b' t t.words h' step.0 id (after_refusal x.knows s)) same step.1.1 in
+      let kept_slots : OwnsSlots z h' id x.knows.own x.knows.slots = ((steps_here form z b t h late views k id x at live).refuses ready).1.owned in
       let above : IsAboveSeen x.knows.told b.clock = subst (IsAboveSeen x.knows.told) same
       (seen_below h k.world.rule x.knows.told known.told) in
       ⊎_elim
       (λ early. drawn form z id x live b t h late views k at h' step.0 (after_read_draw x.knows b.clock) (with_stamp x.path b.clock)
       (λ y. SameSeat x.view y.view × DrawsRead x b.clock y at_clock)
-      (step.1.0, read_draw_known b' t t.words h' step.0 id x.knows b.clock (omega arith) then)
+      (step.1.0, read_draw_known b' t t.words h' step.0 id x.knows b.clock (omega arith) then) (kept_slots)
       (subst (λ (s : ℕ). IsPathOf h' id (with_stamp x.path s)) same
       (stamp_is_drawn h k.world.rule id x.path (path_here form z b t h late views k id x at live)))
       ((refl, refl, refl, refl, refl), record { stamped = λ _. refl; refused = λ late_now. absurd (omega arith); above = above }))
       (λ late_now. drawn form z id x live b t h late views k at h' step.0 (after_refusal x.knows b.clock) x.path
-      (λ y. SameSeat x.view y.view × DrawsRead x b.clock y at_clock) (step.1.0, then)
+      (λ y. SameSeat x.view y.view × DrawsRead x b.clock y at_clock) (step.1.0, then) kept_slots
       (path_kept form z b t h late views k id x at live h' step.1.0.keeps step.1.0.unread)
       ((refl, refl, refl, refl, refl), record { stamped = λ early. absurd (omega arith); refused = λ _. refl; above = above }))
       (cases_lt b.clock last_stamp)
@@ -129,8 +136,15 @@ module _ (form : Form) (z : Size) where
     path_now : IsPathOf h id x.path
     path_now = path_here form z b t h late views k id x at live
 
+    can : CanRead h id s e
+    can = may_read h k.world.rule id s x.path path_now stamped none_left
+
     keeps : Keeps h h'
-    keeps = read_keeps h k.world.rule id s e (may_read h k.world.rule id s x.path path_now stamped none_left)
+    keeps = read_keeps h k.world.rule id s e can
+
+    -- a read changes no cells
+    same_now : (n : ℕ) (f : Field) → cells_now h' n f ≡ cells_now h n f
+    same_now n f = (λ i. Reading.same_now h k.world.rule id s e can i n f)
 
     tied_then : IsTied b t h'
     tied_then = let tied = k.world.tied in record {
@@ -140,10 +154,10 @@ module _ (form : Form) (z : Size) where
       references = tied.references;
       seated = tied.seated;
       plain = tied.plain;
+      cells = λ n f. tied.cells n f ∙ sym (same_now n f);
       stages = tied.stages;
       published = tied.published;
       exchanges = tied.exchanges;
-      used = tied.used;
       uncleared = tied.uncleared;
     }
 
@@ -159,6 +173,8 @@ module _ (form : Form) (z : Size) where
       fits = world.fits;
       based = bases_still h h' keeps (λ y is. is) world.based;
       seen = paths_still h h' keeps (λ y is. is) world.seen;
+      slots = take_read_slots z b h world.rule world.slots (linked_now form z id b t t.words h late world) id s e can;
+      lawful = world.lawful;
     }
 
     known_then : (j : ℕ) (u : PassKnows) → IsKnown b t t.words h late j u → IsKnown b t t.words h' late j u
@@ -177,6 +193,10 @@ module _ (form : Form) (z : Size) where
       told = all_more (IsTrueNote h') (in_run s e) x.knows.told (updated_here h.item s (Some e) s refl) known.told;
     }
 
+    owned_then : (j : ℕ) (u : PassKnows) → OwnsSlots z h j u.own u.slots → OwnsSlots z h' j u.own u.slots
+    owned_then j u was = same_slots z h h' j u.own u.slots was (λ n v. (steps_keep_owned h k.world.rule).reads_spares id s e n v can)
+        (λ n w f. (steps_keep_owned h k.world.rule).reads_filled s e n w f) refl refl refl
+
     -- no other pass drew this stamp
     other_stamps : (j r : ℕ) → j ≢ id → IsUnread h j r → IsUnread h' j r
     other_stamps j r ne is = (steps_keep_owned h k.world.rule).reads_unread id s e j r
@@ -185,8 +205,8 @@ module _ (form : Form) (z : Size) where
 
     pub read_taken : WholeKept form z b t h' late (set views id after_taking)
     read_taken = record {
-      kept = subst (Kept (IsSound form) z b t) (sym (views_set views id after_taking))
-          (noted_more (IsSound form) z b t (views_of views) id x.view [] k.kept (at_view form z b t h late views k id x at live)
+      kept = subst (Kept (CellsAreSound form) z b t) (sym (views_set views id after_taking))
+          (noted_more (CellsAreSound form) z b t (views_of views) id x.view [] k.kept (at_view form z b t h late views k id x at live)
           live (all_none (NoteHolds z b t)));
       world = world_then;
       known = each_moved views id after_taking (λ j u. u.view.live ≡ true → IsKnown b t t.words h late j u.knows)
@@ -195,22 +215,26 @@ module _ (form : Form) (z : Size) where
       paths = each_moved views id after_taking (λ j u. u.view.live ≡ true → IsPathOf h j u.path)
           (λ j u. u.view.live ≡ true → IsPathOf h' j u.path) k.paths (λ _. path_used h h' keeps id x.path path_now)
           (λ j u ne at_j was alive. path_stays h h' keeps j u.path (was alive) (λ r. other_stamps j r ne));
+      owned = each_moved views id after_taking (λ j u. u.view.live ≡ true → OwnsSlots z h j u.knows.own u.knows.slots)
+          (λ j u. u.view.live ≡ true → OwnsSlots z h' j u.knows.own u.knows.slots) k.owned
+          (λ _. owned_then id x.knows (owned_here form z b t h late views k id x at live))
+          (λ j u ne at_j was alive. owned_then j u.knows (was alive));
       unmade = λ j le lt. known_then j _ (k.unmade j le lt);
+      unowned = λ j le lt. owned_then j (knows_nothing z j) (k.unowned j le lt);
       none_given = k.none_given;
-      lawful = k.lawful;
     }
 
   -- ---- a check
 
   -- a version that is found as it was visited, after the stamp was drawn
   found_again : (b : Board) (t : Past) (h : History) (late : ℕ → Bool) (views : List Whole) → WholeKept form z b t h late views
-      → (s : ℕ) (v : Visited) → s < h.clock → b.cell v.node Version ≡ Plain v.version → IsTrueNote h (looked s v.node (value v.version))
-  found_again b t h late views k s v below is =
+      → (s : ℕ) (v : Visited) → IsUsed (h.slot v.node) → s < h.clock → b.cell v.node Version ≡ Plain v.version → IsTrueNote h (looked s v.node (value v.version))
+  found_again b t h late views k s v is_used below is =
       let tied = k.world.tied in let n : ℕ = v.node in
       let no_reference : h.reference n Version ≡ None = tied.references n Version ∙ ap reference_in is in
       let plain : h.plain n Version ≡ v.version = tied.plain n Version ∙ plain_there form z b t k.kept.shared n Version v.version is in
       subst (λ (f : Found). IsTrueNote h (looked s n f)) (λ i. found_in (no_reference i) (plain i))
-      ((loads_tell h k.world.rule).look s n below (used_not_spare (h.slot n) (tied.used n)))
+      ((loads_tell h k.world.rule).look s n below (used_not_spare (h.slot n) is_used))
 
   -- what a look tells is told where more is noted of the run
   seen_too : (x : Whole) (n r : ℕ) (y u : Whole) → u.view ≡ y.view → u.aim ≡ y.aim → Learns y.knows u.knows
@@ -230,6 +254,7 @@ module _ (form : Form) (z : Size) where
         rises = s.rises;
         after_visits = s.after_visits;
         sentinel = s.sentinel;
+        leads = λ m link is ne. learns.told (in_use m) (s.leads m link is ne);
       }
 
   module _ (id : ℕ) (x : Whole) (live : x.view.live ≡ true) (n : ℕ) (may : MayCheck x.path n)
@@ -246,12 +271,17 @@ module _ (form : Form) (z : Size) where
     LooksOn p = (y : Whole) × WholeKept form z b t h late (set views id y)
         × (SameSeat x.view y.view × CellSeen x n Version r y × (y.path ≡ p))
 
-    looks_on : (p : Path) → IsPathOf h id p → LooksOn p
-    looks_on p path = let g = cell_looks_on form z id x n Version live in_p b t h late views k at [] (all_none (NoteHolds z b t)) p path in
-        (g.0, g.1, (g.2.0, g.2.1, g.2.3))
-
     own_path : IsPathOf h id x.path
     own_path = path_here form z b t h late views k id x at live
+
+    -- the node of the next visit is in use
+    node_used : IsUsed (h.slot n)
+    node_used = subst (λ (m : ℕ). IsUsed (h.slot m)) may.at_node (own_path.used may.visit
+        (inr (subst (IsAmong may.visit) (sym may.next) (inl refl))))
+
+    looks_on : (p : Path) → IsPathOf h id p → LooksOn p
+    looks_on p path = let g = cell_looks_on form z id x n Version live in_p b t h late views k at node_used [] (all_none (NoteHolds z b t)) p path in
+        (g.0, g.1, (g.2.0, g.2.1, g.2.3))
 
     -- the visit in front is this one
     in_front : (v : Visited) (others : List Visited) → x.path.left ≡ v ∷ others → v ≡ may.visit
@@ -290,7 +320,8 @@ module _ (form : Form) (z : Size) where
     module _ (found : kind r ≡ Plain may.visit.version) where
       path_then : IsPathOf h id (with_left x.path may.others)
       path_then = check_passes h id x.path own_path may.stamp may.visit may.others may.drawn may.next
-          (found_again b t h late views k may.stamp may.visit (own_path.unread may.stamp may.drawn).0
+          (found_again b t h late views k may.stamp may.visit (own_path.used may.visit
+          (inr (subst (IsAmong may.visit) (sym may.next) (inl refl)))) (own_path.unread may.stamp may.drawn).0
           (subst (λ (m : ℕ). b.cell m Version ≡ Plain may.visit.version) (sym may.at_node)
           (sym (kind_raw (b.cell n Version) (k.kept.shared.ranges n Version)) ∙ found)))
 

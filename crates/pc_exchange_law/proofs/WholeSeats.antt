@@ -6,7 +6,7 @@ use Rattle.std.proofs.lemmas.List.{length-map}
 use Rattle.atomic_table.specs.Table.{Splits, Joins}
 use Rattle.atomic_table.proofs.Lists.{at_map, set_else}
 use Rattle.pc_model.specs.declared.cell.Field.{Field}
-use Rattle.pc_model.specs.Forms.{Form, IsSound}
+use Rattle.pc_model.specs.Forms.{Form}
 use Rattle.pc_rule_law.specs.Board.{Size, Board, put}
 use Rattle.pc_rule_law.specs.Conditions.{IsFree}
 use Rattle.pc_rule_law.specs.Past.{Past}
@@ -17,6 +17,9 @@ use Rattle.pc_rule_law.proofs.Lists.{all_both, each_moved, each_snoc, below_leng
 use Rattle.pc_rule_law.proofs.Seats.{split_kept, join_kept}
 use Rattle.pc_protocol.specs.Histories.{History}
 use Rattle.pc_protocol.specs.Notes.{IsTrueNote}
+use Rattle.pc_exchange_law.specs.Ties.{CellsAreSound}
+use Rattle.pc_exchange_law.specs.AttemptSteps.{first_attempt}
+use Rattle.pc_exchange_law.specs.OwnSlots.{first_slots, OwnsSlots}
 use Rattle.pc_exchange_law.specs.Attempts.{IsTrueAttemptNote}
 use Rattle.pc_exchange_law.specs.ExchangeLaws.{Comes}
 use Rattle.pc_exchange_law.specs.Passes.{PassKnows, IsKnown}
@@ -34,11 +37,12 @@ module _ (form : Form) (z : Size) (b : Board) (t : Past) (h : History) (late : �
   few = k.kept.few
 
   -- the board, the attempts and the installs stay, and how many passes there are may change
-  recounts : (t' : Past) → ((p a : ℕ) → t'.attempt p a ≡ t.attempt p a) → ((n : ℕ) (f : Field) → t'.plain n f ≡ t.plain n f)
-      → ((q i : ℕ) → t'.placing q i ≡ t.placing q i) → Shared (IsSound form) z b t'
+  recounts : (t' : Past) → ((p a : ℕ) → t'.attempt p a ≡ t.attempt p a) → ((n : ℕ) (f : Field) → t'.cells n f ≡ t.cells n f)
+      → ((n : ℕ) (f : Field) → t'.plain n f ≡ t.plain n f)
+      → ((q i : ℕ) → t'.placing q i ≡ t.placing q i) → Shared (CellsAreSound form) z b t'
       → Comes form z id b t t.words h late b t' t.words h late x.knows
-  recounts t' attempts plain placings shared = (steps_here form z b t h late views k id x at live).others b t'
-      (record { clock = refl; statuses = λ p. refl; words = λ n f. refl; attempts = attempts; plain = plain })
+  recounts t' attempts cells plain placings shared = (steps_here form z b t h late views k id x at live).others b t'
+      (record { clock = refl; statuses = λ p. refl; words = λ n f. refl; attempts = attempts; cells = cells; plain = plain })
       (record { statuses = λ p. refl; words = λ p i. refl; cells = λ n f. refl; placings = placings }) shared
 
   pub whole_split_kept : x.view.last ≡ true → x.view.seat + 1 < z.seats
@@ -46,9 +50,9 @@ module _ (form : Form) (z : Size) (b : Board) (t : Past) (h : History) (late : �
   whole_split_kept last room =
       let own = own_here form z b t h late views k id x at live in
       let t' : Past = record t { count = t.count + 1 } in
-      let low : Kept (IsSound form) z b t' (set (views_of views) id (maker x.view) ++ made_by x.view ∷ []) = split_kept
-      (IsSound form) z b t (views_of views) id x.view live last room k.kept (at_view form z b t h late views k id x at live) in
-      let c : Comes form z id b t t.words h late b t' t'.words h late x.knows = recounts t' (λ p a. refl) (λ n f. refl) (λ q i. refl) low.shared in
+      let low : Kept (CellsAreSound form) z b t' (set (views_of views) id (maker x.view) ++ made_by x.view ∷ []) = split_kept
+      (CellsAreSound form) z b t (views_of views) id x.view live last room k.kept (at_view form z b t h late views k id x at live) in
+      let c : Comes form z id b t t.words h late b t' t'.words h late x.knows = recounts t' (λ p a. refl) (λ n f. refl) (λ n f. refl) (λ q i. refl) low.shared in
       let same : views_of (set views id (whole_maker x) ++ whole_made x ∷ []) ≡ set (views_of views) id (maker x.view) ++ made_by x.view ∷ [] =
       views_more (set views id (whole_maker x)) (whole_made x)
       ∙ ap (λ (l : List View). l ++ made_by x.view ∷ []) (views_set views id (whole_maker x)) in
@@ -64,25 +68,31 @@ module _ (form : Form) (z : Size) (b : Board) (t : Past) (h : History) (late : �
       (λ j u ne at_j was alive. still j u.knows
       (let below : j < t.count = subst (λ (n : ℕ). j < n) (sym (length-map views (λ (w : Whole). w.view)) ∙ k.kept.counted) (below_length views j u at_j) in
       let enough : t.count ≤ z.seats = k.kept.room in let some : z.seats ≤ 32 = few in omega arith) ne (was alive)) in
-      let blank : IsKnown b t' t'.words h late t.count (knows_nothing z.starts.attempt) = still t.count
-      (knows_nothing z.starts.attempt) (let some : z.seats ≤ 32 = few in omega arith) (λ e. absurd (omega arith))
+      let blank : IsKnown b t' t'.words h late t.count (knows_nothing z t.count) = still t.count
+      (knows_nothing z t.count) (let some : z.seats ≤ 32 = few in omega arith) (λ e. absurd (omega arith))
       (k.unmade t.count (omega arith) (omega arith)) in
-      let made : P t.count (whole_made x) = λ _. subst (λ (s : Size). IsKnown b t' t'.words h late t.count
-      (record (knows_nothing s.starts.attempt) { noted = x.knows.noted; told = x.knows.told })) (sym own.sized)
-      (made_known b t' t'.words h late id t.count z.starts.attempt x.knows c.known blank) in
+      let made : P t.count (whole_made x) = λ _. subst (λ (s : Size × ℕ). IsKnown b t' t'.words h late t.count
+      (record (knows_nothing s.0 s.1) { noted = x.knows.noted; told = x.knows.told })) (λ i. (sym own.sized i, count i))
+      (made_known b t' t'.words h late id t.count t.count z x.knows c.known blank) in
+      let O : ℕ → Whole → Type 0 = λ j u. u.view.live ≡ true → OwnsSlots z h j u.knows.own u.knows.slots in
+      let made_owns : O t.count (whole_made x) = λ _. subst (λ (s : Size × ℕ). OwnsSlots z h t.count (first_attempt s.0.starts.attempt)
+      (first_slots s.0 s.1)) (λ i. (sym own.sized i, count i)) (k.unowned t.count (omega arith) (omega arith)) in
       record {
-        kept = subst (Kept (IsSound form) z b t') (sym same) low;
+        kept = subst (Kept (CellsAreSound form) z b t') (sym same) low;
         world = c.world;
         known = each_snoc (set views id (whole_maker x)) (whole_made x) P changed
             (subst (λ (n : ℕ). P n (whole_made x)) (sym long) made);
         paths = each_snoc (set views id (whole_maker x)) (whole_made x) (λ j u. u.view.live ≡ true → IsPathOf h j u.path)
             (each_moved views id (whole_maker x) (λ j u. u.view.live ≡ true → IsPathOf h j u.path)
             (λ j u. u.view.live ≡ true → IsPathOf h j u.path) k.paths (λ _. k.paths id x at live) (λ j u _ _ was. was))
-            (λ _. empty_path h (length (set views id (whole_maker x))) true);
-        unmade = λ j le lt. still j (knows_nothing z.starts.attempt) (let some : z.seats ≤ 32 = few in omega arith)
+            (λ _. empty_path h (length (set views id (whole_maker x))) false);
+        owned = each_snoc (set views id (whole_maker x)) (whole_made x) O
+            (each_moved views id (whole_maker x) O O k.owned (λ _. k.owned id x at live) (λ j u _ _ was. was))
+            (subst (λ (n : ℕ). O n (whole_made x)) (sym long) made_owns);
+        unowned = λ j le lt. k.unowned j (omega arith) lt;
+        unmade = λ j le lt. still j (knows_nothing z j) (let some : z.seats ≤ 32 = few in omega arith)
             (λ e. absurd (omega arith)) (k.unmade j (omega arith) lt);
         none_given = k.none_given;
-        lawful = k.lawful;
       }
 
   pub whole_join_kept : (other : ℕ) (y : Whole) → y.view.live ≡ true → x.view.rest ≡ y.view.seat + 1 → IsFree y.view
@@ -95,14 +105,15 @@ module _ (form : Form) (z : Size) (b : Board) (t : Past) (h : History) (late : �
       let there : get_elem? (set (views_of views) id (joined_by x.view y.view)) other ≡ some y.view = subst
       (λ (l : List View). get_elem? l other ≡ some y.view) (views_set views id u)
       (at_map (λ (w : Whole). w.view) (set views id u) other y at_other) in
-      let low : Kept (IsSound form) z b t' (set (set (views_of views) id (joined_by x.view y.view)) other spent_view) = join_kept
-      (IsSound form) z b t (views_of views) id x.view other y.view live alive rest free k.kept
+      let low : Kept (CellsAreSound form) z b t' (set (set (views_of views) id (joined_by x.view y.view)) other spent_view) = join_kept
+      (CellsAreSound form) z b t (views_of views) id x.view other y.view live alive rest free k.kept
       (at_view form z b t h late views k id x at live) apart there in
-      let c : Comes form z id b t t.words h late b t' t'.words h late x.knows = recounts t' (λ p a. refl) (λ n f. refl) (λ q i. refl) low.shared in
+      let c : Comes form z id b t t.words h late b t' t'.words h late x.knows = recounts t' (λ p a. refl) (λ n f. refl) (λ n f. refl) (λ q i. refl) low.shared in
       let same : views_of (set (set views id u) other whole_spent) ≡ set (set (views_of views) id (joined_by x.view y.view)) other spent_view =
       views_set (set views id u) other whole_spent ∙ ap (λ (l : List View). set l other spent_view) (views_set views id u) in
       let P : ℕ → Whole → Type 0 = λ j w. w.view.live ≡ true → IsKnown b t' t'.words h late j w.knows in
       let Q : ℕ → Whole → Type 0 = λ j w. w.view.live ≡ true → IsPathOf h j w.path in
+      let O : ℕ → Whole → Type 0 = λ j w. w.view.live ≡ true → OwnsSlots z h j w.knows.own w.knows.slots in
       let mine_below : id < t.count = subst (λ (n : ℕ). id < n) (sym (length-map views (λ (w : Whole). w.view)) ∙ k.kept.counted) (below_length views id x at) in
       let enough : t.count ≤ z.seats = k.kept.room in
       let still : (j : ℕ) (w : PassKnows) → j < 64 → j ≢ id → IsKnown b t t.words h late j w → IsKnown b t' t'.words h late j w =
@@ -124,16 +135,19 @@ module _ (form : Form) (z : Size) (b : Board) (t : Past) (h : History) (late : �
       (let below : j < t.count = subst (λ (n : ℕ). j < n) (sym (length-map views (λ (w : Whole). w.view)) ∙ k.kept.counted) (below_length views j w at_j) in
       let some : z.seats ≤ 32 = few in omega arith) ne (was lives)) in
       record {
-        kept = subst (Kept (IsSound form) z b t') (sym same) low;
+        kept = subst (Kept (CellsAreSound form) z b t') (sym same) low;
         world = c.world;
         known = each_moved (set views id u) other whole_spent P P first (λ no. absurd (cc)) (λ j w _ _ was. was);
         paths = each_moved (set views id u) other whole_spent Q Q
             (each_moved views id u Q Q k.paths (λ _. k.paths id x at live) (λ j w _ _ was. was)) (λ no. absurd (cc))
             (λ j w _ _ was. was);
-        unmade = λ j le lt. still j (knows_nothing z.starts.attempt) (let some : z.seats ≤ 32 = few in omega arith)
+        owned = each_moved (set views id u) other whole_spent O O
+            (each_moved views id u O O k.owned (λ _. k.owned id x at live) (λ j w _ _ was. was)) (λ no. absurd (cc))
+            (λ j w _ _ was. was);
+        unowned = k.unowned;
+        unmade = λ j le lt. still j (knows_nothing z j) (let some : z.seats ≤ 32 = few in omega arith)
             (λ e. absurd (omega arith)) (k.unmade j le lt);
         none_given = k.none_given;
-        lawful = k.lawful;
       }
 
 module _ (form : Form) (z : Size) where

@@ -6,7 +6,7 @@ use lib.ListN.{get_elem?}
 use prog.Atomic.{either}
 use Rattle.atomic_table.specs.Table.{keeps, Allows}
 use Rattle.atomic_table.proofs.Lists.{exchanged, set_here, at_map}
-use Rattle.pc_model.specs.Forms.{Form, IsSound}
+use Rattle.pc_model.specs.Forms.{Form}
 use Rattle.pc_rule_law.specs.Board.{Size, Place, Board, shows, address, Inside, Only}
 use Rattle.pc_rule_law.specs.Past.{Past}
 use Rattle.pc_rule_law.specs.Plays.{SameSeat}
@@ -14,6 +14,7 @@ use Rattle.pc_rule_law.proofs.Lists.{below_length}
 use Rattle.pc_rule_law.proofs.Places.{wrote}
 use Rattle.pc_rule_law.proofs.Steps.{told, well}
 use Rattle.pc_protocol.specs.Histories.{History}
+use Rattle.pc_exchange_law.specs.Ties.{CellsAreSound}
 use Rattle.pc_exchange_law.specs.Wholes.{Whole, views_of, WholeKept, WholeHolds}
 use Rattle.pc_exchange_law.specs.WholePlays.{WholeMine, WholeTells}
 
@@ -92,7 +93,7 @@ module _ (form : Form) (z : Size) where
           g.told.0,
           told z me.0.view p (T (get_or s.words (address z p) 0) g.view) sized in_p
               (subst (λ (n : ℕ). T n g.view p) (sym found) g.told.1),
-          well (IsSound form) z g.board g.past (views_of (set s.views id g.view)) id g.view.view g.kept.kept
+          well (CellsAreSound form) z g.board g.past (views_of (set s.views id g.view)) id g.view.view g.kept.kept
               (at_map (λ (u : Whole). u.view) (set s.views id g.view) id g.view
               (set_here s.views id g.view (below_length s.views id me.0 at))),
         ),

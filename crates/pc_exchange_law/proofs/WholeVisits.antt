@@ -17,7 +17,7 @@ use Rattle.pc_rule_law.specs.Rule.{Holding, CellOk}
 use Rattle.pc_rule_law.specs.Plays.{SameSeat}
 use Rattle.pc_rule_law.specs.Views.{NoteHolds}
 use Rattle.pc_rule_law.proofs.Lists.{all_none, below_length}
-use Rattle.pc_protocol.specs.Histories.{changed, History, moments, cells_now, IsPublished}
+use Rattle.pc_protocol.specs.Histories.{changed, History, moments, cells_now, IsPublished, IsUsed}
 use Rattle.pc_protocol.specs.Rules.{IsCause}
 use Rattle.pc_protocol.specs.Seeing.{Visits, ChangesVersion}
 use Rattle.pc_protocol.specs.Notes.{Found, Note, value, by, looked, drew, rival, outdated}
@@ -26,6 +26,8 @@ use Rattle.pc_protocol.proofs.Stages.{used_not_spare, absent_not_published}
 use Rattle.pc_exchange_law.specs.AttemptLaws.{AttemptsAreKnown}
 use Rattle.pc_exchange_law.specs.Attempts.{OwnsAttempt, KnowsWord, KnowsEntry, KnowsVisit}
 use Rattle.pc_exchange_law.specs.Ties.{code, reference_in, IsSeated, exchange_of}
+use Rattle.pc_history.specs.Footprints.{IsAmong}
+use Rattle.pc_exchange_law.specs.ExchangeConditions.{VisitsForDraw}
 use Rattle.pc_exchange_law.specs.Wholes.{Whole, WholeKept, WholeHolds}
 use Rattle.pc_exchange_law.specs.WholePlays.{WholeMine, LookedFor, LooksFor}
 use Rattle.pc_exchange_law.specs.WholeSteps.{whole_looks_for}
@@ -40,7 +42,8 @@ use Rattle.pc_exchange_law.proofs.WholeLooks.{plain_there}
 use Rattle.pc_exchange_law.proofs.WholeSteps.{WholeLooks, whole_looked_at}
 
 module _ (form : Form) (z : Size) (id : ℕ) (x : Whole) (n : ℕ) (live : x.view.live ≡ true) (b : Board) (t : Past) (h : History)
-    (late : ℕ → Bool) (views : List Whole) (k : WholeKept form z b t h late views) (at : get_elem? views id ≡ some x) where
+    (late : ℕ → Bool) (views : List Whole) (k : WholeKept form z b t h late views) (at : get_elem? views id ≡ some x)
+    (is_used : IsUsed (h.slot n)) where
   abbrev r : ℕ
   r = raw (b.cell n Version)
 
@@ -49,7 +52,7 @@ module _ (form : Form) (z : Size) (id : ℕ) (x : Whole) (n : ℕ) (live : x.vie
 
   -- the version now, by the run
   now_is : h.plain n Version ≡ cells_now h n Version
-  now_is = k.world.rule.plain_is n Version (used_not_spare (h.slot n) (k.world.tied.used n))
+  now_is = k.world.rule.plain_is n Version (used_not_spare (h.slot n) is_used)
 
   known_attempts : AttemptsAreKnown z.slots b t t.words h x.view.seat x.knows.own x.knows.noted
   known_attempts = let known = known_here form z b t h late views k id x at live in
@@ -58,7 +61,7 @@ module _ (form : Form) (z : Size) (id : ℕ) (x : Whole) (n : ℕ) (live : x.vie
       known.noted
 
   abbrev told : List Note
-  told = looks_for h k.world.rule n (used_not_spare (h.slot n) (k.world.tied.used n)) x.knows.told
+  told = looks_for h k.world.rule n (used_not_spare (h.slot n) is_used) x.knows.told
 
   -- an attempt for which a stamp was drawn
   module _ (p a s : ℕ) (small : p < 64) (has : Has x.knows.told (drew (code p a) s)) where
@@ -166,7 +169,7 @@ module _ (form : Form) (z : Size) (id : ℕ) (x : Whole) (n : ℕ) (live : x.vie
 
   tells_look : (y : Whole) → ((m : Note) → Has told m → Has y.knows.told m) → LookedFor x n r y
   tells_look y more =
-      let rule = k.world.rule in let tied = k.world.tied in let no_spare = used_not_spare (h.slot n) (tied.used n) in record {
+      let rule = k.world.rule in let tied = k.world.tied in let no_spare = used_not_spare (h.slot n) is_used in record {
         number = λ e s w has is.
             let there : b.cell n Version ≡ Plain w = sym here ∙ is in
             let no_reference : h.reference n Version ≡ None = tied.references n Version ∙ ap reference_in there in
@@ -191,20 +194,37 @@ module _ (form : Form) (z : Size) (id : ℕ) (x : Whole) (n : ℕ) (live : x.vie
       }
 
 module _ (form : Form) (z : Size) where
-  pub whole_look_for_looks : (id : ℕ) (x : Whole) (n : ℕ) → x.view.live ≡ true → Inside z (at_cell n Version)
+  -- a node that an attempt visits, for which a stamp was drawn, is in use
+  visited_used : (id : ℕ) (x : Whole) (n : ℕ) → x.view.live ≡ true → (b : Board) (t : Past) (h : History) (late : ℕ → Bool)
+      (views : List Whole) → WholeKept form z b t h late views → get_elem? views id ≡ some x → VisitsForDraw x n → IsUsed (h.slot n)
+  visited_used id x n live b t h late views k at visit =
+      let known = known_here form z b t h late views k id x at live in
+      let own = own_here form z b t h late views k id x at live in
+      let p = visit.seat in let a = visit.number in
+      let published = (k.world.rule.drawn (code p a) visit.stamp (known.told (drew (code p a) visit.stamp) visit.drawn)).0 in
+      let there = ((attempts_are_known z.slots b t t.words h x.view.seat x.knows.own x.knows.noted k.world.scripts
+      (subst (λ (i : ℕ). OwnsAttempt b h i x.knows.own) (sym own.seated.0) known.own) known.noted).visit p a visit.index n visit.version
+      (subst (λ (u : Size). KnowsVisit u.slots x.knows.noted x.view.seat x.knows.own p a visit.index n visit.version) own.sized visit.known)).1 in
+      k.world.slots.visited (code p a) (record { node = n; version = visit.version }) published
+      (subst (λ (e : PathExchange). IsAmong (record { node = n; version = visit.version }) e.visits)
+      (sym (k.world.tied.exchanges p a visit.low published))
+      (has_among (t.attempt p a).visits (record { node = n; version = visit.version }) (visit.index, there)))
+
+  pub whole_look_for_looks : (id : ℕ) (x : Whole) (n : ℕ) → x.view.live ≡ true → VisitsForDraw x n → Inside z (at_cell n Version)
       → WholeLooks form z id x (at_cell n Version) (λ r y. SameSeat x.view y.view × LooksFor x r y (at_cell n Version))
-  whole_look_for_looks id x n live in_p b t h late views k at =
-      let no_spare = used_not_spare (h.slot n) (k.world.tied.used n) in
+  whole_look_for_looks id x n live visit in_p b t h late views k at =
+      let is_used = visited_used id x n live b t h late views k at visit in
+      let no_spare = used_not_spare (h.slot n) is_used in
       let more : List Note = looks_for h k.world.rule n no_spare x.knows.told in
-      let g = cell_looks_more form z id x n Version live in_p b t h late views k at [] (all_none (NoteHolds z b t)) more
+      let g = cell_looks_more form z id x n Version live in_p b t h late views k at is_used [] (all_none (NoteHolds z b t)) more
       (looks_true h k.world.rule n no_spare x.knows.told (known_here form z b t h late views k id x at live).told) x.path
       (path_here form z b t h late views k id x at live) in
-      (g.0, g.1, (g.2.0, (g.2.1, tells_look form z id x n live b t h late views k at g.0 g.2.4, g.2.3)))
+      (g.0, g.1, (g.2.0, (g.2.1, tells_look form z id x n live b t h late views k at is_used g.0 g.2.4, g.2.3)))
 
   -- a load of a version, for the stamps that were drawn for exchanges which visit it
   pub whole_look_for : (slots id : ℕ) (me : WholeMine) (n : ℕ) → me.0.view.size ≡ z → me.0.view.live ≡ true
-      → Inside z (at_cell n Version)
+      → VisitsForDraw me.0 n → Inside z (at_cell n Version)
       → Allows (WholeHolds form z) slots id me (address z (at_cell n Version)) (λ r. r)
       (whole_looks_for (step slots (address z (at_cell n Version)) 0 0 none) me)
-  whole_look_for slots id me n sized live in_p = whole_looked_at form z slots id me (at_cell n Version)
-      (LooksFor me.0) in_p sized (whole_look_for_looks id me.0 n live in_p)
+  whole_look_for slots id me n sized live visit in_p = whole_looked_at form z slots id me (at_cell n Version)
+      (LooksFor me.0) in_p sized (whole_look_for_looks id me.0 n live visit in_p)

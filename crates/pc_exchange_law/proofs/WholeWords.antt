@@ -6,7 +6,7 @@ use lib.ListN.{get_elem?}
 use prog.Atomic.{either}
 use Rattle.atomic_table.specs.Table.{step, Allows}
 use Rattle.pc_model.specs.declared.cell.Field.{Field}
-use Rattle.pc_model.specs.Forms.{Form, IsSound}
+use Rattle.pc_model.specs.Forms.{Form}
 use Rattle.pc_words.specs.declared.word.WordKind.{WordKind}
 use Rattle.pc_words.specs.declared.word.WordKind.TheVariants.{Plain, Install, Exchange}
 use Rattle.pc_words.specs.Words.{raw, kind, InRange}
@@ -18,12 +18,12 @@ use Rattle.pc_rule_law.specs.Plays.{SameSeat, InstallTried, InstallTaken}
 use Rattle.pc_rule_law.specs.Rule.{Kept, Shared}
 use Rattle.pc_rule_law.specs.Views.{View}
 use Rattle.pc_rule_law.proofs.InstallPlacing.{place_hits, place_misses}
-use Rattle.pc_rule_law.proofs.InstallTaking.{take_hits, take_misses}
+use Rattle.pc_rule_law.proofs.InstallTaking.{known_of, take_hits, take_misses}
 use Rattle.pc_rule_law.proofs.Descriptors.{known_entry}
 use Rattle.pc_rule_law.proofs.Lists.{has_first, has_left, all_none, all_one}
 use Rattle.pc_rule_law.proofs.Steps.{MovesWord, Goes as ViewGoes}
 use Rattle.pc_rule_law.proofs.Updates.{put_cell-here}
-use Rattle.pc_protocol.specs.Histories.{History}
+use Rattle.pc_protocol.specs.Histories.{History, IsUsed}
 use Rattle.pc_protocol.specs.Notes.{Note, outdated, IsTrueNote}
 use Rattle.pc_protocol.specs.Steps.{refer}
 use Rattle.pc_exchange_law.specs.Attempts.{IsTrueAttemptNote}
@@ -31,7 +31,7 @@ use Rattle.pc_exchange_law.specs.Changes.{with_word, with_installs}
 use Rattle.pc_exchange_law.specs.ExchangeLaws.{Comes}
 use Rattle.pc_exchange_law.specs.Knowing.{with_more, WordSeen}
 use Rattle.pc_exchange_law.specs.Passes.{PassKnows}
-use Rattle.pc_exchange_law.specs.Ties.{code, reference_in}
+use Rattle.pc_exchange_law.specs.Ties.{code, reference_in, CellsAreSound}
 use Rattle.pc_exchange_law.specs.Wholes.{Whole, views_of, WholeKept, WholeHolds}
 use Rattle.pc_exchange_law.specs.WholePlays.{WholeMine, WordSwapped, OldDiffers, WholePlaced, WholeTaken}
 use Rattle.pc_exchange_law.specs.WholeSteps.{whole_places, whole_takes}
@@ -39,8 +39,12 @@ use Rattle.pc_exchange_law.proofs.ExchangeLaws.{exchange_steps_go_on}
 use Rattle.pc_exchange_law.proofs.Knowing.{more_known, more_learns}
 use Rattle.pc_exchange_law.proofs.TieTelling.{board_tells}
 use Rattle.pc_exchange_law.proofs.TieMoves.{may_become, brings}
+use Rattle.pc_exchange_law.specs.Attempts.{OwnAttempt}
+use Rattle.pc_exchange_law.specs.OwnSlots.{OwnSlots, OwnsSlots}
+use Rattle.pc_exchange_law.proofs.Slots.{entry_used}
+use Rattle.pc_protocol.proofs.Stages.{used_not_spare}
 use Rattle.pc_exchange_law.proofs.WholeFound.{not_cleared}
-use Rattle.pc_exchange_law.proofs.WholeKeeping.{at_view, mine, own_here, known_here, path_here, path_kept, whole_looked, whole_after}
+use Rattle.pc_exchange_law.proofs.WholeKeeping.{at_view, mine, own_here, known_here, owned_here, path_here, path_kept, whole_looked, whole_after}
 use Rattle.pc_exchange_law.proofs.WholeLooks.{plain_there, word_seen}
 use Rattle.pc_exchange_law.proofs.WholeSteps.{WholeGoes, retold, whole_swapped}
 use Rattle.pc_exchange_law.proofs.WordsSeen.{seen_still, loads_tell_passes}
@@ -49,11 +53,11 @@ module _ (form : Form) (z : Size) where
   -- after a step the pass learns what stands in the word
   seen_then : (id : ℕ) (b : Board) (t : Past) (h : History) (late : ℕ → Bool) (b' : Board) (t' : Past) (h' : History)
       (late' : ℕ → Bool) (k' : PassKnows) → Comes form z id b t t.words h late b' t' t'.words h' late' k' → (n : ℕ) (f : Field)
-      (c : WordKind) → b'.cell n f ≡ c → InRange c
+      (c : WordKind) → IsUsed (h'.slot n) → b'.cell n f ≡ c → InRange c
       → (k2 : PassKnows) × WordSeen k' n f (kind (raw c)) k2 × Comes form z id b t t.words h late b' t' t'.words h' late' k2
-  seen_then id b t h late b' t' h' late' k' step n f c is in_range =
+  seen_then id b t h late b' t' h' late' k' step n f c is_used is in_range =
       let learnt = (loads_tell_passes z.slots z.seats b' t' t'.words h' late' id k' step.world.scripts step.world.rule
-      step.world.tied step.world.clock step.known).word n f (plain_there form z b' t' step.shared n f) in (
+      step.world.tied step.world.clock step.known).word n f (used_not_spare (h'.slot n) is_used) (plain_there form z b' t' step.shared n f) in (
         learnt.0,
         subst (λ (w : WordKind). WordSeen k' n f w learnt.0) (is ∙ sym (kind_raw c in_range)) learnt.1,
         record {
@@ -64,6 +68,9 @@ module _ (form : Form) (z : Size) where
           leaves = step.leaves;
           leaves_late = step.leaves_late;
           unread = step.unread;
+          stays = step.stays;
+          owned = subst (λ (i : OwnAttempt × OwnSlots). OwnsSlots z h' id i.0 i.1)
+              (λ i. (sym learnt.1.learns.own i, sym learnt.1.learns.slots i)) step.owned;
           known = learnt.2;
         },
       )
@@ -71,23 +78,25 @@ module _ (form : Form) (z : Size) where
   -- a step on one word of a node that the rule of installs has: the pass learns what it found, and what stands there then
   moved : (id : ℕ) (x : Whole) → x.view.live ≡ true → (b : Board) (t : Past) (h : History) (late : ℕ → Bool)
       (views : List Whole) (k : WholeKept form z b t h late views) (at : get_elem? views id ≡ some x) (n : ℕ) (f : Field)
-      (c : WordKind) (old m : ℕ) (T : View → Type 0) (g : ViewGoes (IsSound form) z (MovesWord z id n f c) b t (views_of views) id
+      (is_used : IsUsed (h.slot n)) (c : WordKind) (old m : ℕ) (T : View → Type 0) (g : ViewGoes (CellsAreSound form) z (MovesWord z id n f c) b t (views_of views) id
       (at_cell n f) m (λ w. SameSeat x.view w × T w)) → raw (b.cell n f) ≡ old
       → WholeGoes form z b views id (at_cell n f) m
       (λ y. SameSeat x.view y.view × T y.view × WordSwapped x n f old (raw c) (raw (b.cell n f)) y)
-  moved id x live b t h late views k at n f c old m T g hit =
+  moved id x live b t h late views k at n f is_used c old m T g hit =
       let known = known_here form z b t h late views k id x at live in
-      let learnt = word_seen form z b t h late views k id x.knows known n f in
+      let learnt = word_seen form z b t h late views k id x.knows known n f is_used in
+      let owned = subst (λ (i : OwnAttempt × OwnSlots). OwnsSlots z h id i.0 i.1)
+      (λ i. (sym learnt.1.learns.own i, sym learnt.1.learns.slots i)) (owned_here form z b t h late views k id x at live) in
       let s = k.kept.shared in let w = g.happens in
       let h' : History = refer h n f (reference_in c) in
       let there : (g.board, g.past) ≡ (with_word b n f c, with_installs t w.placing' w.course') = λ i. (w.board i, w.past i) in
       let step : Comes form z id b t t.words h late (with_word b n f c) (with_installs t w.placing' w.course') t.words h' late
       learnt.0 = (exchange_steps_go_on form z id b t t.words h late x.view learnt.0 k.kept.few s k.world
-      (own_here form z b t h late views k id x at live) (mine form z b t h late views k id x at live).noted learnt.2).words n f c
-      w.placing' w.course' (may_become z b t id n f c w.placing' w.course' w.moves)
-      (brings (IsSound form) z b t id n f c w.placing' w.course' s w.moves)
-      (subst (λ (u : Board × Past). Shared (IsSound form) z u.0 u.1) there g.kept.shared) in
-      let then = seen_then id b t h late (with_word b n f c) (with_installs t w.placing' w.course') h' late learnt.0 step n f c
+      (own_here form z b t h late views k id x at live) (mine form z b t h late views k id x at live).noted learnt.2 owned).words n f c
+      w.placing' w.course' is_used (may_become z b t id n f c w.placing' w.course' w.moves)
+      (brings (CellsAreSound form) z b t id n f c w.placing' w.course' s w.moves)
+      (subst (λ (u : Board × Past). Shared (CellsAreSound form) z u.0 u.1) there g.kept.shared) in
+      let then = seen_then id b t h late (with_word b n f c) (with_installs t w.placing' w.course') h' late learnt.0 step n f c is_used
       (put_cell-here b.cell n f c) w.moves.in_range in
       let comes : Comes form z id b t t.words h late g.board g.past g.past.words h' late then.0 = subst
       (λ (u : Board × Past). Comes form z id b t t.words h late u.0 u.1 u.1.words h' late then.0) (sym there) then.2 in
@@ -107,22 +116,22 @@ module _ (form : Form) (z : Size) where
   -- where such a step misses, the pass learns what it found, and notes what else is true
   missed : (id : ℕ) (x : Whole) → x.view.live ≡ true → (b : Board) (t : Past) (h : History) (late : ℕ → Bool)
       (views : List Whole) (k : WholeKept form z b t h late views) (at : get_elem? views id ≡ some x) (n : ℕ) (f : Field)
-      (old new : ℕ) (T : View → Type 0) (more : List Note) → ((m : Note) → Has more m → IsTrueNote h m)
+      (is_used : IsUsed (h.slot n)) (old new : ℕ) (T : View → Type 0) (more : List Note) → ((m : Note) → Has more m → IsTrueNote h m)
       → raw (b.cell n f) ≢ old
-      → (w : View) × Kept (IsSound form) z b t (set (views_of views) id w) × (SameSeat x.view w × T w)
+      → (w : View) × Kept (CellsAreSound form) z b t (set (views_of views) id w) × (SameSeat x.view w × T w)
       → (y : Whole) × WholeKept form z b t h late (set views id y)
       × (SameSeat x.view y.view × T y.view × WordSwapped x n f old new (raw (b.cell n f)) y
       × ((m : Note) → Has more m → Has y.knows.told m))
-  missed id x live b t h late views k at n f old new T more is_true miss g =
+  missed id x live b t h late views k at n f is_used old new T more is_true miss g =
       let known = known_here form z b t h late views k id x at live in
-      let learnt = word_seen form z b t h late views k id x.knows known n f in
+      let learnt = word_seen form z b t h late views k id x.knows known n f is_used in
       let y : Whole = record x { view = g.0; knows = with_more learnt.0 [] more } in
       let seen : WordSeen x.knows n f (kind (raw (b.cell n f))) y.knows = seen_still x.knows n f (kind (raw (b.cell n f)))
       learnt.0 y.knows learnt.1 (more_learns z.slots b t t.words h late id learnt.0 learnt.2 [] more) in (
         y,
         whole_looked form z b t h late views k id x at live y g.1
             (more_known z.slots b t t.words h late id learnt.0 learnt.2 [] more
-            (all_none (IsTrueAttemptNote b t t.words)) is_true) (path_here form z b t h late views k id x at live),
+            (all_none (IsTrueAttemptNote b t t.words)) is_true) (learnt.1.learns.own, learnt.1.learns.slots) (path_here form z b t h late views k id x at live),
         (
           g.2.0,
           g.2.1,
@@ -138,17 +147,17 @@ module _ (form : Form) (z : Size) where
   outdated_by y n (Exchange q e) = []
 
   outdated_true : (b : Board) (t : Past) (h : History) (late : ℕ → Bool) (views : List Whole)
-      → WholeKept form z b t h late views → (p a n : ℕ) (f : Field) (v new : ℕ) → p < 64 → a ≤ (b.status p).number
+      → WholeKept form z b t h late views → (p a n : ℕ) (f : Field) (v new : ℕ) → p < 64 → IsUsed (h.slot n) → a ≤ (b.status p).number
       → Has (t.attempt p a).changes (change n f v new) → raw (b.cell n f) ≢ raw (Plain v) → (c : WordKind) → b.cell n f ≡ c
       → (m : Note) → Has (outdated_by (code p a) n c) m
       → IsTrueNote h m
   unfolding outdated_by
-  outdated_true b t h late views k p a n f v new small le has miss (Plain u) is = all_one (IsTrueNote h) (outdated (code p a) n)
+  outdated_true b t h late views k p a n f v new small is_used le has miss (Plain u) is = all_one (IsTrueNote h) (outdated (code p a) n)
       ((board_tells b t h k.world.rule k.world.tied).outdates p a (change n f v new) small le has
       (k.world.based (code p a) (k.world.tied.published p a (change n f v new) small le has))
-      (λ same. miss (ap raw is ∙ ap (λ (i : ℕ). raw (Plain i)) (sym (plain_there form z b t k.kept.shared n f u is) ∙ same))))
-  outdated_true b t h late views k p a n f v new small le has miss (Install q i) is = all_none (IsTrueNote h)
-  outdated_true b t h late views k p a n f v new small le has miss (Exchange q e) is = all_none (IsTrueNote h)
+      (used_not_spare (h.slot n) is_used) (λ same. miss (ap raw is ∙ ap (λ (i : ℕ). raw (Plain i)) (sym (plain_there form z b t k.kept.shared n f u is) ∙ same))))
+  outdated_true b t h late views k p a n f v new small is_used le has miss (Install q i) is = all_none (IsTrueNote h)
+  outdated_true b t h late views k p a n f v new small is_used le has miss (Exchange q e) is = all_none (IsTrueNote h)
 
   -- one install is for one attempt
   one_attempt : (p a q e : ℕ) → p < 64 → q < 64 → raw (Exchange p a) ≡ raw (Exchange q e) → (p ≡ q) × (a ≡ e)
@@ -168,6 +177,31 @@ module _ (form : Form) (z : Size) where
       subst (λ (i : ℕ × ℕ). Has y.knows.told (outdated (code i.0 i.1) n)) (λ i. (one.0 i, one.1 i))
       (told (outdated (code p a) n) has)
 
+  -- the node of a word that an install may be placed in is in use, since it is one of the attempt's
+  placed_used : (id : ℕ) (x : Whole) → x.view.live ≡ true → (b : Board) (t : Past) (h : History) (late : ℕ → Bool)
+      (views : List Whole) (k : WholeKept form z b t h late views) → get_elem? views id ≡ some x → (n : ℕ) (f : Field) (v p a : ℕ)
+      → CanPlace z x.view n f v p a → IsUsed (h.slot n)
+  placed_used id x live b t h late views k at n f v p a can =
+      let few : z.seats ≤ 32 = k.kept.few in let lt = can.attempt.0 in let small : p < 64 = omega arith in
+      let known = mine form z b t h late views k id x at live in
+      let listed = known_entry (CellsAreSound form) z b t k.kept.shared id x.view (known.own live) known.noted
+      (known.tries live) p a n f v can.listed in
+      entry_used b t h k.world.tied k.world.slots.changed p a (change n f v listed.0) small listed.1 listed.2
+
+  -- and so is that of one that an install may be taken from
+  taken_used : (id : ℕ) (x : Whole) (b : Board) (t : Past) (h : History) (late : ℕ → Bool) (views : List Whole)
+      (k : WholeKept form z b t h late views) → get_elem? views id ≡ some x → x.view.live ≡ true → (n : ℕ) (f : Field) (i q : ℕ)
+      (c : WordKind) → CanTake z x.view i q n f c → IsUsed (h.slot n)
+  taken_used id x b t h late views k at live n f i q c can =
+      let few : z.seats ≤ 32 = k.kept.few in let s = k.kept.shared in
+      let known = mine form z b t h late views k id x at live in
+      let kn = (known_of (CellsAreSound form) z b t x.view i q n f c few s known.noted can.may).2 in
+      let y = s.installs i q kn.has in let l = y.listed in let placing = t.placing i q in
+      let lt = y.seat in let small : placing.seat < 64 = omega arith in
+      subst (λ (m : ℕ). IsUsed (h.slot m)) kn.at_node
+      (entry_used b t h k.world.tied k.world.slots.changed placing.seat placing.number
+      (change placing.node placing.field placing.old l.0) small y.published l.1)
+
   -- the own install in place of the plain value v of a word of node n, for attempt a of pass p
   pub whole_place : (slots id : ℕ) (me : WholeMine) (n : ℕ) (f : Field) (v p a : ℕ) → CanPlace z me.0.view n f v p a
       → Inside z (at_cell n f)
@@ -179,9 +213,10 @@ module _ (form : Form) (z : Size) where
       whole_swapped form z slots id me (at_cell n f) old new (WholePlaced x old new) in_p can.sized
       (λ b t h late views k at hit.
       let own = own_here form z b t h late views k id x at can.live in
-      let g = place_hits (IsSound form) z id x.view n f v p a can in_p b t (views_of views) k.kept
+      let g = place_hits (CellsAreSound form) z id x.view n f v p a can in_p b t (views_of views) k.kept
       (at_view form z b t h late views k id x at can.live) hit in
-      let m = moved id x can.live b t h late views k at n f (Install id x.view.install.number) old new
+      let is_used = placed_used id x can.live b t h late views k at n f v p a can in
+      let m = moved id x can.live b t h late views k at n f is_used (Install id x.view.install.number) old new
       (λ w. InstallTried x.view n f old (raw (b.cell n f)) w) g hit in record {
         view = m.view;
         board = m.board;
@@ -205,12 +240,13 @@ module _ (form : Form) (z : Size) where
       (λ b t h late views k at miss.
       let few : z.seats ≤ 32 = k.kept.few in let lt = can.attempt.0 in let small : p < 64 = omega arith in
       let known = mine form z b t h late views k id x at can.live in
-      let listed = known_entry (IsSound form) z b t k.kept.shared id x.view (known.own can.live) known.noted
+      let listed = known_entry (CellsAreSound form) z b t k.kept.shared id x.view (known.own can.live) known.noted
       (known.tries can.live) p a n f v can.listed in
+      let is_used = placed_used id x can.live b t h late views k at n f v p a can in
       let more = outdated_by (code p a) n (b.cell n f) in
-      let g = missed id x can.live b t h late views k at n f old new (λ w. InstallTried x.view n f old (raw (b.cell n f)) w) more
-      (outdated_true b t h late views k p a n f v listed.0 small listed.1 listed.2 miss (b.cell n f) refl) miss
-      (place_misses (IsSound form) z id x.view n f v p a can in_p b t (views_of views) k.kept
+      let g = missed id x can.live b t h late views k at n f is_used old new (λ w. InstallTried x.view n f old (raw (b.cell n f)) w) more
+      (outdated_true b t h late views k p a n f v listed.0 small is_used listed.1 listed.2 miss (b.cell n f) refl) miss
+      (place_misses (CellsAreSound form) z id x.view n f v p a can in_p b t (views_of views) k.kept
       (at_view form z b t h late views k id x at can.live) miss) in
       (g.0, g.1, (g.2.0, (g.2.1, g.2.2, old_differs x b n f old p a g.0 (k.kept.shared.ranges n f) small can.op g.2.3, not_cleared form z id x can.live b t h late views k at n f))))
 
@@ -223,9 +259,10 @@ module _ (form : Form) (z : Size) where
   whole_take slots id me n f i q c can in_p = let x = me.0 in let old : ℕ = raw (Install i q) in let new : ℕ = raw c in
       whole_swapped form z slots id me (at_cell n f) old new (WholeTaken x old new) in_p can.sized
       (λ b t h late views k at hit.
-      let g = take_hits (IsSound form) z id x.view n f i q c can in_p b t (views_of views) k.kept
+      let g = take_hits (CellsAreSound form) z id x.view n f i q c can in_p b t (views_of views) k.kept
       (at_view form z b t h late views k id x at can.live) hit in
-      let m = moved id x can.live b t h late views k at n f c old new
+      let is_used = taken_used id x b t h late views k at can.live n f i q c can in
+      let m = moved id x can.live b t h late views k at n f is_used c old new
       (λ w. InstallTaken x.view n f old new (raw (b.cell n f)) w) g hit in
       retold form z b views id (at_cell n f) new
       (λ y. SameSeat x.view y.view × InstallTaken x.view n f old new (raw (b.cell n f)) y.view
@@ -233,8 +270,9 @@ module _ (form : Form) (z : Size) where
       (λ y. SameSeat x.view y.view × WholeTaken x old new (raw (b.cell n f)) y (at_cell n f))
       (λ y told. (told.0, (told.1, told.2))) m)
       (λ b t h late views k at miss.
-      let g = missed id x can.live b t h late views k at n f old new (λ w. InstallTaken x.view n f old new (raw (b.cell n f)) w) []
+      let is_used = taken_used id x b t h late views k at can.live n f i q c can in
+      let g = missed id x can.live b t h late views k at n f is_used old new (λ w. InstallTaken x.view n f old new (raw (b.cell n f)) w) []
       (all_none (IsTrueNote h)) miss
-      (take_misses (IsSound form) z id x.view n f i q c can in_p b t (views_of views) k.kept
+      (take_misses (CellsAreSound form) z id x.view n f i q c can in_p b t (views_of views) k.kept
       (at_view form z b t h late views k id x at can.live) miss) in
       (g.0, g.1, (g.2.0, (g.2.1, g.2.2))))

@@ -9,7 +9,7 @@ use Rattle.pc_rule_law.specs.Board.{Board}
 use Rattle.pc_rule_law.specs.Past.{Has, Past}
 use Rattle.pc_rule_law.specs.Stages.{DecidedBelow}
 use Rattle.pc_rule_law.proofs.Lists.{has_first, has_left, has_right, all_both, all_none, all_one}
-use Rattle.pc_protocol.specs.Histories.{Stage, History, IsPublished}
+use Rattle.pc_protocol.specs.Histories.{Stage, History, IsPublished, IsSpare}
 use Rattle.pc_protocol.specs.Rules.{Rule}
 use Rattle.pc_protocol.specs.Notes.{Note, clock_was, visited, read_word, saw, looked, published, held, drew, verdict, in_use, rival, in_run, cleared, outdated, IsTrueNote}
 use Rattle.pc_protocol.proofs.Stages.{absent_not_published}
@@ -34,7 +34,7 @@ published_below b t h tied p a small is = ⊎_elim
 
 module _ (slots : ℕ) (b : Board) (t : Past) (w : Scripts) (h : History) (late : ℕ → Bool) (id : ℕ) (k : PassKnows)
     (known : IsKnown b t w h late id k) (rule : Rule h) (tied : IsTied b t h) (n : ℕ) (f : Field)
-    (worth : (x : ℕ) → b.cell n f ≡ Plain x → t.plain n f ≡ x) where
+    (no_spare : IsSpare (h.slot n) → ⊥) (worth : (x : ℕ) → b.cell n f ≡ Plain x → t.plain n f ≡ x) where
   calm_by : ℕ → ℕ → WordKind → List AttemptNote
   calm_by p a (Plain x) = []
   calm_by p a (Install q i) = calm_but p a n f q i ∷ []
@@ -121,7 +121,7 @@ module _ (slots : ℕ) (b : Board) (t : Past) (w : Scripts) (h : History) (late 
   version_true : (g : Field) (x : ℕ) → t.plain n g ≡ x → (m : Note) → Has (version_by g x) m → IsTrueNote h m
   unfolding version_by
   version_true Version x is = all_one (IsTrueNote h) (visited n x b.clock)
-      (subst (λ (v : ℕ). IsTrueNote h (visited n v b.clock)) is ((board_tells b t h rule tied).version n))
+      (subst (λ (v : ℕ). IsTrueNote h (visited n v b.clock)) is ((board_tells b t h rule tied).version n no_spare))
   version_true Key x is = all_none (IsTrueNote h)
   version_true Value x is = all_none (IsTrueNote h)
   version_true Left x is = all_none (IsTrueNote h)
@@ -152,7 +152,7 @@ module _ (slots : ℕ) (b : Board) (t : Past) (w : Scripts) (h : History) (late 
   reads_true x is (clock_was y) o = all_none (IsTrueNote h)
   reads_true x is (visited m v y) o = all_if_same (IsTrueNote h) m n (read_word n v f x b.clock)
       (λ same. subst (λ (u : ℕ). IsTrueNote h (read_word n v f u b.clock)) is
-      ((board_tells b t h rule tied).word n v y f (subst (λ (i : ℕ). IsTrueNote h (visited i v y)) same o)))
+      ((board_tells b t h rule tied).word n v y f no_spare (subst (λ (i : ℕ). IsTrueNote h (visited i v y)) same o)))
   reads_true x is (read_word m v g y u) o = all_none (IsTrueNote h)
   reads_true x is (saw y e) o = all_none (IsTrueNote h)
   reads_true x is (looked y m g) o = all_none (IsTrueNote h)
@@ -236,6 +236,7 @@ seen_still k n f c k' k2 seen more = record {
   learns = record {
     own = more.own ∙ seen.learns.own;
     ready = more.ready ∙ seen.learns.ready;
+    slots = more.slots ∙ seen.learns.slots;
     noted = λ m has. more.noted m (seen.learns.noted m has);
     told = λ m has. more.told m (seen.learns.told m has);
   };

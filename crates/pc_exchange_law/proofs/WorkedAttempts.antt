@@ -1,6 +1,6 @@
 -- The definitions of attempts on worked cases: words that were stored into a descriptor, what they say of an attempt,
 -- an early install in a word, and seats that drew at the end of the clock.
-use Rattle.std.proofs.Common.{◌≡◌, ℕ, zero, suc, ◌+◌, ◌*◌, inr, true, false, ◌==◌, if◌then◌else◌, List, [], ◌∷◌, refl, sym, subst, arith}
+use Rattle.std.proofs.Common.{◌≡◌, ℕ, zero, suc, ◌+◌, ◌*◌, inr, true, false, ◌==◌, if◌then◌else◌, List, [], ◌∷◌, None, refl, sym, subst, arith}
 use mathlib.Core.Option.{some, some-injective, some-ne-none}
 use lib.ListN.{get_elem?}
 use Rattle.pc_model.specs.declared.cell.Field.TheVariants.{Value}
@@ -13,7 +13,7 @@ use Rattle.pc_exchange_law.specs.ClockEnds.{count_late}
 
 -- an attempt of one change, as it is stored: the count, and then the entry from its last word on
 abbrev to_put : Attempt
-to_put = record { mode = 0; changes = change 1 Value 0 50 ∷ []; visits = []; reads = [] }
+to_put = record { mode = 0; changes = change 1 Value 0 50 ∷ []; visits = []; reads = []; fresh = None }
 
 abbrev stored : List (ℕ × ℕ)
 stored = (3, 10) ∷ (5, 50) ∷ (1, 1) ∷ []

@@ -1,16 +1,20 @@
 -- The definitions on a worked board of two passes: the pass at seat 1 publishes an exchange of two words, puts an
 -- install into one of them and its reference into both, draws a stamp, succeeds, takes its references away and goes
 -- idle. In each state the rule of the protocol holds and the board is tied; other boards are not tied.
-use Rattle.std.proofs.Common.{◌≡◌, ℕ, zero, suc, ◌^◌, ◌<◌, ◌≤◌, ◌⊎◌, inl, inr, ⊎_elim, [], ◌∷◌, Some, None, refl, sym, ap, ◌∙◌, subst, arith, false}
+use Rattle.std.proofs.Common.{◌≡◌, ◌≢◌, ℕ, zero, suc, ◌^◌, ◌<◌, ◌≤◌, ◌⊎◌, inl, inr, ⊎_elim, [], ◌∷◌, Some, None, refl, sym, ap, ◌∙◌, subst, arith, false}
+use Rattle.std.proofs.lemmas.Bool.{cases_eq}
+use Rattle.std.proofs.lemmas.Bool.Decides.{nat_tests}
 use mathlib.Core.Option.{some, some-injective, some-ne-none}
 use lib.ListN.{get_elem?}
 use Rattle.pc_model.specs.declared.cell.Field.{Field}
 use Rattle.pc_model.specs.declared.cell.Field.TheVariants.{Version, Value}
-use Rattle.pc_model.specs.Cells.{Cells}
-use Rattle.pc_model.specs.Exchanges.{Changed}
+use Rattle.pc_model.specs.Cells.{Cells, IsOdd}
+use Rattle.pc_model.specs.Exchanges.{Changed, Exchange as PathExchange}
+use Rattle.pc_model.specs.Linked.{opening_cells}
 use Rattle.pc_words.specs.declared.word.WordKind.TheVariants.{Plain, Install, Exchange}
 use Rattle.pc_words.specs.declared.status.Stage.TheVariants.{Idle, Undecided, Succeeded}
-use Rattle.pc_history.specs.Footprints.{RaisesVersionOf}
+use Rattle.pc_history.specs.Footprints.{IsAmong, RaisesVersionOf}
+use Rattle.pc_history.proofs.Updates.{updated_here, updated_other, from_updated}
 use Rattle.pc_history.specs.WorldRuns.{cells_after}
 use Rattle.pc_rule_law.specs.Board.{Size, Board, put2}
 use Rattle.pc_rule_law.specs.Past.{Has, Attempt, Past, change, IsFormed}
@@ -20,14 +24,15 @@ use Rattle.pc_rule_law.specs.Openings.{opening_board, opening_attempt, opening_w
 use Rattle.pc_rule_law.specs.Seats.{opening_past}
 use Rattle.pc_rule_law.proofs.Lists.{all_more, all_none, none_has}
 use Rattle.pc_rule_law.proofs.WordKinds.{plain_not_exchange, install_not_exchange, seat_of, number_of}
-use Rattle.pc_protocol.specs.Histories.{for_exchange, committed, History, moments}
+use Rattle.pc_protocol.specs.Histories.{for_exchange, undecided, committed, History, moments, cells_now, IsPublished, IsUsed}
 use Rattle.pc_protocol.specs.Seeing.{Saw}
 use Rattle.pc_protocol.specs.Steps.{draw, publish, commit, refer}
 use Rattle.pc_protocol.proofs.Stages.{none_not_some, undecided_not_committed}
 use Rattle.pc_exchange_law.specs.Ties.{code, seat_in, number_in, exchange_of, IsTied}
 use Rattle.pc_exchange_law.specs.Changes.{with_word, with_status, with_next_stamp, with_values}
 use Rattle.pc_exchange_law.specs.Changes.{Leads, RaisesNodes}
-use Rattle.pc_exchange_law.specs.TieLaws.{opening_history, StepsStayTied, WordsServe, HasOpened, run_up_to}
+use Rattle.pc_exchange_law.specs.Slots.{ChangesUsed}
+use Rattle.pc_exchange_law.specs.TieLaws.{opening_history, MayMake, StepsStayTied, WordsServe, HasOpened, run_up_to}
 use Rattle.pc_exchange_law.proofs.Ties.{steps_stay_tied, words_serve}
 use Rattle.pc_exchange_law.proofs.TieDraws.{nothing_changes}
 use Rattle.pc_exchange_law.proofs.TieOpenings.{openings_are_tied}
@@ -43,10 +48,13 @@ number_of_it : number_in 257 ≡ 4
 number_of_it = refl
 
 abbrev two : Size
-two = record { seats = 2; slots = 1; starts = record { attempt = 3; install = 0; stamp = 5; epoch = 1; version = 0 } }
+two = record { seats = 2; slots = 1; shares = 1 ∷ 0 ∷ []; starts = record { attempt = 3; install = 0; stamp = 5; epoch = 1; version = 0 } }
 
 abbrev zeros : Cells
-zeros n f = 0
+zeros = opening_cells 0
+
+marked : (n : ℕ) → n ≢ 1 → IsOdd (zeros n Version)
+marked n ne = grind (arith, nat_tests)
 
 abbrev raise : Changed
 raise = change 1 Version 0 2
@@ -55,7 +63,7 @@ abbrev put_value : Changed
 put_value = change 1 Value 0 50
 
 abbrev to_put : Attempt
-to_put = record { mode = 0; changes = raise ∷ put_value ∷ []; visits = []; reads = [] }
+to_put = record { mode = 0; changes = raise ∷ put_value ∷ []; visits = []; reads = []; fresh = None }
 
 each_change : (P : Changed → Type 0) → P raise → P put_value → (x : Changed) → Has to_put.changes x → P x
 each_change P of_raise of_value = all_more P raise (put_value ∷ []) of_raise
@@ -96,11 +104,11 @@ nothing_seen : (at : ℕ → Cells) → Saw at 5 (exchange_of to_put)
 nothing_seen at = record { visits = λ v among. absurd among; reads = λ r among. absurd among }
 
 -- what follows from a state to which a step leads
-steps : (h : History) (b' : Board) (t' : Past) (h' : History) → Leads h b' t' h' → StepsStayTied two b' t' h'
-steps h b' t' h' led = steps_stay_tied two b' t' h' (omega arith) led.keeps.rule led.tied
+steps : (h : History) (b' : Board) (t' : Past) (h' : History) → Leads h b' t' h' → ChangesUsed h' → StepsStayTied two b' t' h'
+steps h b' t' h' led changed = steps_stay_tied two b' t' h' (omega arith) led.keeps.rule led.tied changed
 
-serve : (h : History) (b' : Board) (t' : Past) (h' : History) → Leads h b' t' h' → WordsServe two b' t' h'
-serve h b' t' h' led = words_serve two b' t' h' (omega arith) led.keeps.rule led.tied
+serve : (h : History) (b' : Board) (t' : Past) (h' : History) → Leads h b' t' h' → ChangesUsed h' → WordsServe two b' t' h'
+serve h b' t' h' led changed = words_serve two b' t' h' (omega arith) led.keeps.rule led.tied changed
 
 -- ---- the board opens
 
@@ -114,7 +122,7 @@ abbrev h0 : History
 h0 = opening_history zeros 5
 
 led0 : Leads h0 b0 t0 h0
-led0 = let has : HasOpened b0 t0 zeros = openings_are_tied.usual two zeros in
+led0 = let has : HasOpened b0 t0 zeros = openings_are_tied.usual two zeros marked in
     record { keeps = nothing_changes h0 has.rule; tied = has.tied }
 
 -- ---- the exchange is published, as attempt 4 of the pass at seat 1
@@ -128,9 +136,31 @@ t1 = with_values t0 zeros zeros (put2 t0.attempt 1 4 to_put) (put2 t0.words 1 4 
 abbrev h1 : History
 h1 = publish h0 257 (exchange_of to_put) 5
 
+none_published : ChangesUsed h0
+none_published x a published among = absurd published
+
+makes_none : MayMake h0 (exchange_of to_put)
+makes_none = record {
+  ready = λ g is. absurd (none_not_some g is);
+  apart = λ y g k u is is_k. absurd (none_not_some g is);
+  unchanged = λ y g among is. absurd (none_not_some g is);
+}
+
+-- its words are of the sentinel, which is in use
+touched : ChangesUsed h1
+touched x a published among = ⊎_elim
+    (λ here. of_first a (subst (λ (e : PathExchange). IsAmong a e.changes) (updated_here h0.op 257 (exchange_of to_put) x here) among))
+    (λ other. absurd (subst IsPublished (updated_other h0.stage 257 undecided x other) published))
+    (cases_eq x 257)
+  where
+    of_first : (a : Changed) → IsAmong a to_put.changes → IsUsed (h0.slot a.node)
+    of_first a among = ⊎_elim
+        (λ e. subst (λ (y : Changed). IsUsed (h0.slot y.node)) (sym e) tt)
+        (λ later. ⊎_elim (λ e. subst (λ (y : Changed). IsUsed (h0.slot y.node)) (sym e) tt) (λ none'. absurd none') later) among
+
 led1 : Leads h0 b1 t1 h1
-led1 = (steps h0 b0 t0 h0 led0).publishes 1 5 to_put (omega arith) (λ o. o)
-    ((serve h0 b0 t0 h0 led0).publish 1 5 to_put (omega arith) (omega arith) formed raises (nothing_seen (moments (opening_history zeros 5))))
+led1 = (steps h0 b0 t0 h0 led0 none_published).publishes 1 5 to_put (omega arith) (λ o. o)
+    ((serve h0 b0 t0 h0 led0 none_published).publish 1 5 to_put (omega arith) (omega arith) formed raises (nothing_seen (moments (opening_history zeros 5))) makes_none)
 
 -- ---- an install is placed in its first word, and then its references are put
 
@@ -161,7 +191,7 @@ abbrev h4 : History
 h4 = refer h3 1 Value (Some 257)
 
 led2 : Leads h1 b2 t1 h2
-led2 = (steps h0 b1 t1 h1 led1).words 1 Version (Install 0 9) t1.placing t1.course (record {
+led2 = (steps h0 b1 t1 h1 led1 touched).words 1 Version (Install 0 9) t1.placing t1.course (record {
   holds = λ p a is. absurd (install_not_exchange 0 9 p a is);
   decided = λ p a is. absurd (plain_not_exchange 0 p a is);
 })
@@ -173,13 +203,13 @@ comes n f ho p a is = subst (λ (i : ℕ × ℕ). Holding 2 b1.status t1.attempt
     (λ i. (seat_of 1 4 p a is i, number_of 1 4 p a is i)) ho
 
 led3 : Leads h2 b3 t1 h3
-led3 = (steps h1 b2 t1 h2 led2).words 1 Version (Exchange 1 4) t1.placing t1.course (record {
+led3 = (steps h1 b2 t1 h2 led2 touched).words 1 Version (Exchange 1 4) t1.placing t1.course (record {
   holds = comes 1 Version (holds raise (0, refl) refl);
   decided = λ p a is. absurd (install_not_exchange 0 9 p a is);
 })
 
 led4 : Leads h3 b4 t1 h4
-led4 = (steps h2 b3 t1 h3 led3).words 1 Value (Exchange 1 4) t1.placing t1.course (record {
+led4 = (steps h2 b3 t1 h3 led3 touched).words 1 Value (Exchange 1 4) t1.placing t1.course (record {
   holds = comes 1 Value (holds put_value (1, refl) refl);
   decided = λ p a is. absurd (plain_not_exchange 0 p a is);
 })
@@ -193,7 +223,7 @@ abbrev h5 : History
 h5 = draw h4 (for_exchange 257)
 
 led5 : Leads h4 b5 t1 h5
-led5 = (steps h3 b4 t1 h4 led4).draws 257 ((serve h3 b4 t1 h4 led4).draw 1 4 (omega arith) tt
+led5 = (steps h3 b4 t1 h4 led4 touched).draws 257 ((serve h3 b4 t1 h4 led4 touched).draw 1 4 (omega arith) tt
     (λ x has _. each_change (λ y. b4.cell y.node y.field ≡ Exchange 1 4) refl refl x has))
 
 abbrev h6 : History
@@ -203,11 +233,16 @@ abbrev b6 : Board
 b6 = with_status b5 1 (record { number = 4; stage = Succeeded 5 })
 
 abbrev t6 : Past
-t6 = with_values t1 h6.plain h6.plain t1.attempt t1.words
+t6 = with_values t1 (cells_now h6) h6.plain t1.attempt t1.words
 
 led6 : Leads h5 b6 t6 h6
-led6 = (steps h4 b5 t1 h5 led5).succeeds 1 5 h6.plain h6.plain (omega arith)
-    ((serve h4 b5 t1 h5 led5).commit 1 4 5 (omega arith) (refl, tt) (omega arith, refl) (λ v has. absurd (none_has v has))) (λ n f. refl)
+led6 = (steps h4 b5 t1 h5 led5 touched).succeeds 1 5 (cells_now h6) h6.plain (omega arith)
+    ((serve h4 b5 t1 h5 led5 touched).commit 1 4 5 (omega arith) (refl, tt) (omega arith, refl) (λ v has. absurd (none_has v has))) (λ n f. refl) (λ n f. refl)
+
+touched_then : ChangesUsed h6
+touched_then x a published among = touched x a (⊎_elim
+    (λ here. subst (λ (i : ℕ). IsPublished (h1.stage i)) (sym here.0) tt) (λ other. other.1)
+    (from_updated h5.stage 257 (committed 5) IsPublished x published)) among
 
 -- ---- its references are taken away, and it is cleared
 
@@ -230,19 +265,19 @@ is_decided : (p a : ℕ) → Exchange 1 4 ≡ Exchange p a → IsUndecidedAttemp
 is_decided p a is u = subst (λ (i : ℕ). IsOpen (b6.status i).stage) (sym (seat_of 1 4 p a is)) u.1
 
 led7 : Leads h6 b7 t6 h7
-led7 = (steps h5 b6 t6 h6 led6).words 1 Version (Plain 2) t1.placing t1.course (record {
+led7 = (steps h5 b6 t6 h6 led6 touched_then).words 1 Version (Plain 2) t1.placing t1.course (record {
   holds = λ p a is. absurd (plain_not_exchange 2 p a is);
   decided = is_decided;
 })
 
 led8 : Leads h7 b8 t6 h8
-led8 = (steps h6 b7 t6 h7 led7).words 1 Value (Plain 50) t1.placing t1.course (record {
+led8 = (steps h6 b7 t6 h7 led7 touched_then).words 1 Value (Plain 50) t1.placing t1.course (record {
   holds = λ p a is. absurd (plain_not_exchange 50 p a is);
   decided = is_decided;
 })
 
 led9 : Leads h8 b9 t6 h8
-led9 = (steps h7 b8 t6 h8 led8).clears 1 (λ o. o)
+led9 = (steps h7 b8 t6 h8 led8 touched_then).clears 1 (λ o. o)
 
 -- ---- what is left
 

@@ -21,7 +21,8 @@ use Rattle.pc_exchange_law.specs.ExchangeLaws.{Comes}
 use Rattle.pc_exchange_law.proofs.ExchangeLaws.{exchange_steps_go_on}
 use Rattle.pc_exchange_law.proofs.Knowing.{more_known}
 use Rattle.pc_exchange_law.proofs.TieTelling.{board_tells}
-use Rattle.pc_exchange_law.proofs.WorkedOpening.{any_form, two, raise, to_raise, formed, raises, fits, basis, described, v0, own0, k3, k4, w4}
+use Rattle.pc_exchange_law.proofs.WorkedForms.{bare_form}
+use Rattle.pc_exchange_law.proofs.WorkedOpening.{two, raise, to_raise, formed, raises, marks, touches, fits, basis, described, v0, own0, k3, k4, w4}
 use Rattle.pc_exchange_law.proofs.SeenStamps.{none_above, above_more}
 use Rattle.pc_exchange_law.proofs.WorkedSteps.{k6, step6, t7, h8, b9, k9, step9}
 
@@ -51,9 +52,9 @@ h10 = publish h8 320 (exchange_of to_raise) 6
 abbrev k10 : PassKnows
 k10 = after_publication k9' 320 (exchange_of to_raise) 6
 
-step10 : Comes any_form two 0 b9 t7 w4 h8 step6.0 b10 t10 w10 h10 step6.0 k10
-step10 = (exchange_steps_go_on any_form two 0 b9 t7 w4 h8 step6.0 v0 k9' (omega arith) step9.shared step9.world own0
-    (all_none (NoteHolds two b9 t7)) known9).publishes new_path to_raise 6 [] (record {
+step10 : Comes bare_form two 0 b9 t7 w4 h8 step6.0 b10 t10 w10 h10 step6.0 k10
+step10 = (exchange_steps_go_on bare_form two 0 b9 t7 w4 h8 step6.0 v0 k9' (omega arith) step9.shared step9.world own0
+    (all_none (NoteHolds two b9 t7)) known9 step9.owned).publishes new_path to_raise 6 [] (λ y among. absurd among) (record {
       rests = refl;
       room = omega arith;
       clock = (0, refl);
@@ -63,6 +64,9 @@ step10 = (exchange_steps_go_on any_form two 0 b9 t7 w4 h8 step6.0 v0 k9' (omega 
           (above_more (saw 5 (read_of new_path)) [] 6 tt (none_above 6))))));
       formed = formed;
       raises = raises;
+      marks = marks;
+      touches = λ a among. inl (touches k9' a among);
+      makes = tt;
       seen = inl (refl, (refl, refl));
       described = described;
       fits = fits;
@@ -73,7 +77,7 @@ step10 = (exchange_steps_go_on any_form two 0 b9 t7 w4 h8 step6.0 v0 k9' (omega 
 
 is_outdated : IsTrueNote h10 (outdated 320 1)
 is_outdated = (board_tells b10 t10 h10 step10.world.rule step10.world.tied).outdates 0 5 raise (omega arith) (omega arith)
-    (0, refl) (step10.world.based 320 tt)
+    (0, refl) (step10.world.based 320 tt) (λ s. s)
     (λ same. let clash : ◌≡◌ {A = ℕ} 2 0 = same in absurd (omega (arith, clash)))
 
 abbrev k11 : PassKnows
@@ -85,7 +89,7 @@ knows_it = more_known 1 b10 t10 w10 h10 step6.0 0 k10 step10.known [] (outdated 
 
 -- ---- and it fails
 
-step11 : Comes any_form two 0 b10 t10 w10 h10 step6.0 (with_status b10 0 (record { number = 5; stage = ChangedNode 1 })) t10 w10
+step11 : Comes bare_form two 0 b10 t10 w10 h10 step6.0 (with_status b10 0 (record { number = 5; stage = ChangedNode 1 })) t10 w10
     (abort h10 320 (changed 1)) step6.0 (after_decision k11 320 (aborted (changed 1)))
-step11 = (exchange_steps_go_on any_form two 0 b10 t10 w10 h10 step6.0 v0 k11 (omega arith) step10.shared step10.world own0
-    (all_none (NoteHolds two b10 t10)) knows_it).fails 0 (changed 1) (omega arith) tt (omega arith) (was_told (0, refl))
+step11 = (exchange_steps_go_on bare_form two 0 b10 t10 w10 h10 step6.0 v0 k11 (omega arith) step10.shared step10.world own0
+    (all_none (NoteHolds two b10 t10)) knows_it step10.owned).fails 0 (changed 1) (omega arith) tt (omega arith) (was_told (0, refl))

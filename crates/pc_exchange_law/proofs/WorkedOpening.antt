@@ -1,16 +1,17 @@
 -- The law of the steps of an exchange on a worked board: it opens, its first pass reads the clock and stores its
 -- descriptor, and publishes an exchange that raises a version. What comes of that is in WorkedSteps.
-use Rattle.std.proofs.Common.{◌≡◌, ℕ, zero, suc, ◌+◌, ◌*◌, ◌^◌, ◌<◌, ◌≤◌, inl, ⊎_elim, Bool, true, false, ◌==◌, if◌then◌else◌, [], ◌∷◌, refl, sym, subst, arith}
+use Rattle.std.proofs.Common.{◌≡◌, ◌≢◌, None, ap, ℕ, zero, suc, ◌+◌, ◌*◌, ◌^◌, ◌<◌, ◌≤◌, inl, ⊎_elim, Bool, true, false, ◌==◌, if◌then◌else◌, [], ◌∷◌, refl, sym, subst, arith}
+use Rattle.std.proofs.lemmas.Bool.Decides.{nat_tests}
 use mathlib.Core.Option.{some, some-injective, some-ne-none}
 use lib.ListN.{get_elem?}
 use Rattle.pc_model.specs.declared.cell.Field.{Field}
 use Rattle.pc_model.specs.declared.cell.Field.TheVariants.{Version, Key, Value, Left, Right, Parent, Height, Spare}
-use Rattle.pc_model.specs.Cells.{Cells}
-use Rattle.pc_model.specs.Exchanges.{Changed}
-use Rattle.pc_model.specs.Forms.{Form, IsSound, Fits}
+use Rattle.pc_model.specs.Cells.{Cells, IsOdd}
+use Rattle.pc_model.specs.Exchanges.{Changed, applied}
+use Rattle.pc_model.specs.Forms.{IsSound, Fits}
 use Rattle.pc_model.specs.Linked.{opening_cells}
 use Rattle.pc_words.specs.declared.status.Stage.TheVariants.{Undecided}
-use Rattle.pc_history.specs.Footprints.{RaisesVersionOf}
+use Rattle.pc_history.specs.Footprints.{IsAmong, RaisesVersionOf}
 use Rattle.pc_rule_law.specs.Board.{Size, Board, place_number, put2}
 use Rattle.pc_rule_law.specs.Past.{Attempt, Past, change, Describes, IsFormed}
 use Rattle.pc_rule_law.specs.Views.{View, NoteHolds, AllNotes}
@@ -21,9 +22,12 @@ use Rattle.pc_rule_law.proofs.Lists.{all_one, all_none, none_has}
 use Rattle.pc_rule_law.proofs.Openings.{may_open}
 use Rattle.pc_rule_law.proofs.Seats.{opens}
 use Rattle.pc_protocol.specs.Histories.{History}
+use Rattle.pc_protocol.specs.Links.{MarksAlone}
 use Rattle.pc_protocol.specs.Seeing.{ChangesVersion}
 use Rattle.pc_protocol.specs.Steps.{publish}
-use Rattle.pc_exchange_law.specs.Ties.{exchange_of}
+use Rattle.pc_exchange_law.specs.OwnSlots.{OwnsSlots}
+use Rattle.pc_exchange_law.specs.Slots.{IsHeld}
+use Rattle.pc_exchange_law.specs.Ties.{exchange_of, CellsAreSound}
 use Rattle.pc_exchange_law.specs.Changes.{with_status, with_values, RaisesNodes}
 use Rattle.pc_exchange_law.specs.TieLaws.{opening_history}
 use Rattle.pc_exchange_law.specs.Attempts.{Scripts, word_in}
@@ -37,16 +41,14 @@ use Rattle.pc_exchange_law.specs.ExchangeConditions.{KnowsOld, was_opened, Knows
 use Rattle.pc_exchange_law.specs.ExchangeLaws.{Comes, ExchangeStepsGoOn}
 use Rattle.pc_exchange_law.proofs.SeenStamps.{none_above, above_clock}
 use Rattle.pc_exchange_law.proofs.ExchangeLaws.{exchange_steps_go_on}
+use Rattle.pc_exchange_law.proofs.OwnSlots.{slots_open}
 use Rattle.pc_exchange_law.proofs.Paths.{empty_path}
 use Rattle.pc_exchange_law.proofs.Passes.{world_opens, known_at_opening}
+use Rattle.pc_exchange_law.proofs.WorkedForms.{bare_form, bare_is_linked, opening_is_bare}
 use Rattle.pc_exchange_law.proofs.WordsSeen.{loads_tell_passes}
 
--- cells of any shape
-abbrev pub any_form : Form
-any_form = record { sound = λ slots c ps. Unit {0}; in_debt = λ slots c k. ⊥ }
-
 abbrev pub two : Size
-two = record { seats = 2; slots = 1; starts = record { attempt = 3; install = 0; stamp = 5; epoch = 1; version = 0 } }
+two = record { seats = 2; slots = 1; shares = 1 ∷ 0 ∷ []; starts = record { attempt = 3; install = 0; stamp = 5; epoch = 1; version = 0 } }
 
 abbrev pub cells : Cells
 cells = opening_cells 0
@@ -69,7 +71,7 @@ abbrev pub raise : Changed
 raise = change 1 Version 0 2
 
 abbrev pub to_raise : Attempt
-to_raise = record { mode = 0; changes = raise ∷ []; visits = []; reads = [] }
+to_raise = record { mode = 0; changes = raise ∷ []; visits = []; reads = []; fresh = None }
 
 pub the_change : (i : ℕ) (x : Changed) → get_elem? to_raise.changes i ≡ some x → i ≡ 0
 the_change zero x at = refl
@@ -91,8 +93,31 @@ raises a among = ⊎_elim
     (record { change = raise; among = inl refl; is_of = (refl, refl); rises = inl (omega arith) }))
     (λ none'. absurd none') among
 
-pub fits : Fits any_form 1 (exchange_of to_raise) []
-fits = record { leaves = λ c sound stands. ([], tt); charges = λ c k sound stands debt. absurd debt }
+pub fits : Fits bare_form 1 (exchange_of to_raise) []
+fits = record {
+  leaves = λ c sound stands. let bare = sound.1 in (
+    [],
+    record {
+      sentinel = refl;
+      marked = λ n ne. subst IsOdd (sym (other_version c n ne)) (bare.marked n ne);
+      left = bare.left;
+      right = bare.right;
+      parent = bare.parent;
+    },
+  );
+  charges = λ c k sound stands debt. absurd debt;
+}
+  where
+    other_version : (c : Cells) (n : ℕ) → n ≢ 1 → applied (exchange_of to_raise) c n Version ≡ c n Version
+    other_version c n ne = grind (arith, nat_tests)
+
+pub marks : MarksAlone (exchange_of to_raise)
+marks a b among_a among_b field odd = absurd (⊎_elim
+    (λ e. let two_is_odd : IsOdd 2 = subst (λ (y : Changed). IsOdd y.new) e odd in let clash : 0 ≡ 1 = two_is_odd in omega (arith, clash))
+    (λ none'. none') among_a)
+
+pub touches : (k : PassKnows) (a : Changed) → IsAmong a to_raise.changes → IsHeld k a.node
+touches k a among = ⊎_elim (λ e. inl (ap (λ (y : Changed). y.node) e)) (λ none'. absurd none') among
 
 -- ---- the board opens, and the pass at seat 0 reads the clock
 
@@ -105,10 +130,10 @@ empty_formed = record {
   apart = λ i j x y at. absurd (some-ne-none x (sym at));
 }
 
-pub opening : MayOpen (IsSound any_form) two cells false []
+pub opening : MayOpen (IsSound bare_form) two cells false []
 opening = record {
   seats = (omega arith, omega arith);
-  sound_cells = ([], tt);
+  sound_cells = ([], opening_is_bare);
   small = small_cells;
   attempt = omega arith;
   few = omega arith;
@@ -131,31 +156,34 @@ none_late j = false
 abbrev pub v0 : View
 v0 = new_view two 0 false []
 
-pub kept0 : Kept (IsSound any_form) two b0 t0 (v0 ∷ [])
-kept0 = opens (IsSound any_form) two b0 cells (opening_attempt []) (opening_words []) false []
-    (may_open (IsSound any_form) two cells false [] opening)
+pub kept0 : Kept (CellsAreSound bare_form) two b0 t0 (v0 ∷ [])
+kept0 = opens (CellsAreSound bare_form) two b0 cells (opening_attempt []) (opening_words []) false []
+    (may_open (CellsAreSound bare_form) two cells false [] opening)
 
 pub own0 : Own two b0.install t0.course 0 v0
 own0 = (kept0.each_view 0 v0 refl).own refl
 
-pub world0 : World any_form two b0 t0 no_scripts h0 none_late
-world0 = world_opens any_form two cells (λ n f. refl) ([], tt) (omega arith)
+pub world0 : World bare_form two b0 t0 no_scripts h0 none_late
+world0 = world_opens bare_form two cells (λ n f. refl) ([], opening_is_bare) (omega arith) bare_is_linked
 
 abbrev pub k0 : PassKnows
-k0 = after_clock (knows_nothing 3) 5 (read_of new_path) true
+k0 = after_clock (knows_nothing two 0) 5 (read_of new_path) true
+
+pub owned0 : OwnsSlots two h0 0 k0.own k0.slots
+owned0 = slots_open two cells 5 0
 
 pub known0 : IsKnown b0 t0 no_scripts h0 none_late 0 k0
-known0 = (loads_tell_passes 1 2 b0 t0 no_scripts h0 none_late 0 (knows_nothing 3) world0.scripts world0.rule world0.tied
-    world0.clock (known_at_opening any_form two cells 0)).clock (read_of new_path) true
-    (empty_path h0 0 true).noted (λ _. omega arith)
+known0 = (loads_tell_passes 1 2 b0 t0 no_scripts h0 none_late 0 (knows_nothing two 0) world0.scripts world0.rule world0.tied
+    world0.clock (known_at_opening bare_form two cells 0)).clock (read_of new_path) true
+    (empty_path h0 0 false).noted (λ _. omega arith)
 
 -- what follows from a step
 pub steps : (b : Board) (t : Past) (w : Scripts) (h : History) (late : ℕ → Bool) (b' : Board) (t' : Past) (w' : Scripts)
     (h' : History) (late' : ℕ → Bool) (k' : PassKnows) (v : View)
-    → Comes any_form two 0 b t w h late b' t' w' h' late' k' → Own two b'.install t'.course 0 v
-    → AllNotes (NoteHolds two b' t') v.notes → ExchangeStepsGoOn any_form two 0 b' t' w' h' late' v k'
-steps b t w h late b' t' w' h' late' k' v c own noted = exchange_steps_go_on any_form two 0 b' t' w' h' late' v k'
-    (omega arith) c.shared c.world own noted c.known
+    → Comes bare_form two 0 b t w h late b' t' w' h' late' k' → Own two b'.install t'.course 0 v
+    → AllNotes (NoteHolds two b' t') v.notes → ExchangeStepsGoOn bare_form two 0 b' t' w' h' late' v k'
+steps b t w h late b' t' w' h' late' k' v c own noted = exchange_steps_go_on bare_form two 0 b' t' w' h' late' v k'
+    (omega arith) c.shared c.world own noted c.known c.owned
 
 -- the own install is as at the opening, whatever is noted
 pub owns : (v : View) → v ≡ record v0 { notes = v.notes } → Own two b0.install t0.course 0 v
@@ -181,15 +209,15 @@ k2 = after_own_store k1 3 8
 abbrev pub k3 : PassKnows
 k3 = after_own_store k2 5 2
 
-pub step1 : Comes any_form two 0 b0 t0 no_scripts h0 none_late b1 t0 no_scripts h0 none_late k1
-step1 = (exchange_steps_go_on any_form two 0 b0 t0 no_scripts h0 none_late v0 k0 (omega arith) kept0.shared world0 own0
-    (all_none (NoteHolds two b0 t0)) known0).stores 1 1 refl
+pub step1 : Comes bare_form two 0 b0 t0 no_scripts h0 none_late b1 t0 no_scripts h0 none_late k1
+step1 = (exchange_steps_go_on bare_form two 0 b0 t0 no_scripts h0 none_late v0 k0 (omega arith) kept0.shared world0 own0
+    (all_none (NoteHolds two b0 t0)) known0 owned0).stores 1 1 refl
 
-pub step2 : Comes any_form two 0 b1 t0 no_scripts h0 none_late b2 t0 no_scripts h0 none_late k2
+pub step2 : Comes bare_form two 0 b1 t0 no_scripts h0 none_late b2 t0 no_scripts h0 none_late k2
 step2 = (steps b0 t0 no_scripts h0 none_late b1 t0 no_scripts h0 none_late k1 v0 step1 own0
     (all_none (NoteHolds two b1 t0))).stores 3 8 refl
 
-pub step3 : Comes any_form two 0 b2 t0 no_scripts h0 none_late b3 t0 no_scripts h0 none_late k3
+pub step3 : Comes bare_form two 0 b2 t0 no_scripts h0 none_late b3 t0 no_scripts h0 none_late k3
 step3 = (steps b1 t0 no_scripts h0 none_late b2 t0 no_scripts h0 none_late k2 v0 step2 own0
     (all_none (NoteHolds two b2 t0))).stores 5 2 refl
 
@@ -233,15 +261,18 @@ h4 = publish h0 256 (exchange_of to_raise) 5
 abbrev pub k4 : PassKnows
 k4 = after_publication k3 256 (exchange_of to_raise) 5
 
-pub step4 : Comes any_form two 0 b3 t0 no_scripts h0 none_late b4 t4 w4 h4 none_late k4
+pub step4 : Comes bare_form two 0 b3 t0 no_scripts h0 none_late b4 t4 w4 h4 none_late k4
 step4 = (steps b2 t0 no_scripts h0 none_late b3 t0 no_scripts h0 none_late k3 v0 step3 own0
-    (all_none (NoteHolds two b3 t0))).publishes new_path to_raise 5 [] (record {
+    (all_none (NoteHolds two b3 t0))).publishes new_path to_raise 5 [] (λ y among. absurd among) (record {
       rests = refl;
       room = omega arith;
       clock = (0, refl);
       above = above_clock [] 5 (read_of new_path) (none_above 5);
       formed = formed;
       raises = raises;
+      marks = marks;
+      touches = λ a among. inl (touches k3 a among);
+      makes = tt;
       seen = inl (refl, (refl, refl));
       described = described;
       fits = fits;

@@ -13,7 +13,8 @@ use Rattle.pc_rule_law.specs.Views.{held, clean, View, NoteHolds, AllNotes}
 use Rattle.pc_rule_law.proofs.Lists.{all_one, all_none}
 use Rattle.pc_rule_law.proofs.WordKinds.{plain_not_exchange, seat_of, number_of}
 use Rattle.pc_rule_law.proofs.WordMoves.{WordMoves}
-use Rattle.pc_protocol.specs.Histories.{for_exchange, withdrawn, committed, aborted, History}
+use Rattle.pc_protocol.specs.Histories.{for_exchange, withdrawn, committed, aborted, History, cells_now}
+use Rattle.pc_protocol.proofs.Owned.{steps_keep_owned}
 use Rattle.pc_protocol.specs.Steps.{draw, commit, abort, refer}
 use Rattle.pc_exchange_law.specs.Ties.{exchange_of}
 use Rattle.pc_exchange_law.specs.Changes.{with_word, with_status, with_next_stamp, with_values}
@@ -25,9 +26,11 @@ use Rattle.pc_exchange_law.specs.Knowing.{after_draw, after_decision, after_with
 use Rattle.pc_exchange_law.specs.ExchangeConditions.{KnowsCleared}
 use Rattle.pc_exchange_law.specs.ExchangeLaws.{Comes}
 use Rattle.pc_exchange_law.proofs.ExchangeLaws.{comes}
+use Rattle.pc_exchange_law.proofs.OwnSlots.{same_slots}
 use Rattle.pc_exchange_law.proofs.KnowingSteps.{unchanged_known}
 use Rattle.pc_exchange_law.proofs.Worlds.{Goes, word_goes}
-use Rattle.pc_exchange_law.proofs.WorkedOpening.{any_form, two, to_raise, none_late, v0, own0, steps, owns, b4, t4, w4, h4, k4, step4}
+use Rattle.pc_exchange_law.proofs.WorkedForms.{bare_form}
+use Rattle.pc_exchange_law.proofs.WorkedOpening.{two, to_raise, none_late, v0, own0, steps, owns, b4, t4, w4, h4, k4, step4}
 
 -- ---- its reference comes into the word
 
@@ -52,19 +55,20 @@ comes_in = record {
       (λ i. (sym (seat_of 0 4 p a is) i, sym (number_of 0 4 p a is) i)) over).1 refl tt;
 }
 
-step5 : Comes any_form two 0 b4 t4 w4 h4 none_late b5 t4 w4 h5 none_late k4
+step5 : Comes bare_form two 0 b4 t4 w4 h4 none_late b5 t4 w4 h5 none_late k4
 step5 =
-    let goes : Goes any_form two 0 b4 t4 w4 h4 none_late b5 t4 w4 h5 none_late = word_goes any_form two 0 b4 t4 w4 h4
-    none_late (omega arith) step4.shared step4.world 1 Version (Exchange 0 4) t4.placing t4.course comes_in in
-    comes any_form two 0 b4 t4 w4 h4 none_late b5 t4 w4 h5 none_late k4 (
+    let goes : Goes bare_form two 0 b4 t4 w4 h4 none_late b5 t4 w4 h5 none_late = word_goes bare_form two 0 b4 t4 w4 h4
+    none_late (omega arith) step4.shared step4.world 1 Version (Exchange 0 4) t4.placing t4.course tt comes_in in
+    comes bare_form two 0 b4 t4 w4 h4 none_late b5 t4 w4 h5 none_late k4 (
       goes,
-      unchanged_known any_form two 0 b4 t4 w4 h4 none_late k4 step4.known (omega arith) b5 t4 h5 (λ p. refl)
+      unchanged_known bare_form two 0 b4 t4 w4 h4 none_late k4 step4.known (omega arith) b5 t4 h5 (λ p. refl)
           (λ p place. refl) (λ x. refl) goes,
-    )
+    ) (let kept = (steps_keep_owned h4 step4.world.rule).refers 1 Version (Some 256) in
+    same_slots two h4 h5 0 k4.own k4.slots step4.owned kept.spares kept.filled refl refl refl)
 
 -- ---- here it might be withdrawn as well
 
-step6' : Comes any_form two 0 b5 t4 w4 h5 none_late (with_status b5 0 (record { number = 4; stage = Withdrawn })) t4 w4
+step6' : Comes bare_form two 0 b5 t4 w4 h5 none_late (with_status b5 0 (record { number = 4; stage = Withdrawn })) t4 w4
     (abort h5 256 withdrawn) none_late (after_withdrawal k4 256 (aborted withdrawn))
 step6' = (steps b4 t4 w4 h4 none_late b5 t4 w4 h5 none_late k4 v0 step5 own0 (all_none (NoteHolds two b5 t4))).withdraws tt
 
@@ -92,7 +96,7 @@ h6 = draw h5 (for_exchange 256)
 abbrev pub k6 : PassKnows
 k6 = after_draw k4 256 5
 
-pub step6 : (late' : ℕ → Bool) × Comes any_form two 0 b5 t4 w4 h5 none_late b6 t4 w4 h6 late' k6
+pub step6 : (late' : ℕ → Bool) × Comes bare_form two 0 b5 t4 w4 h5 none_late b6 t4 w4 h6 late' k6
 unfolding place_at
 step6 = (steps b4 t4 w4 h4 none_late b5 t4 w4 h5 none_late k4 v5 step5 (owns v5 refl) noted5).draws 0 4 (record {
   ready = refl;
@@ -114,12 +118,12 @@ abbrev pub b7 : Board
 b7 = with_status b6 0 (record { number = 4; stage = Succeeded 5 })
 
 abbrev pub t7 : Past
-t7 = with_values t4 h7.plain h7.plain t4.attempt t4.words
+t7 = with_values t4 (cells_now h7) h7.plain t4.attempt t4.words
 
 abbrev pub k7 : PassKnows
 k7 = after_decision k6 256 (committed 5)
 
-step7 : Comes any_form two 0 b6 t4 w4 h6 step6.0 b7 t7 w4 h7 step6.0 k7
+step7 : Comes bare_form two 0 b6 t4 w4 h6 step6.0 b7 t7 w4 h7 step6.0 k7
 step7 = (steps b5 t4 w4 h5 none_late b6 t4 w4 h6 step6.0 k6 v0 step6.1 own0 (all_none (NoteHolds two b6 t4))).succeeds 0 5
     (omega arith) tt (record { drawn = (0, refl); low = omega arith; checked = record { count = 0; counted = inr (refl, refl, refl, refl); each = λ i lt. absurd (omega arith) } })
 
@@ -141,7 +145,7 @@ own_entry = record {
   new_word = inr (refl, refl, refl, refl);
 }
 
-pub step8 : Comes any_form two 0 b7 t7 w4 h7 step6.0 b8 t7 w4 h8 step6.0 k7
+pub step8 : Comes bare_form two 0 b7 t7 w4 h7 step6.0 b8 t7 w4 h8 step6.0 k7
 step8 = (steps b6 t4 w4 h6 step6.0 b7 t7 w4 h7 step6.0 k7 v0 step7 own0 (all_none (NoteHolds two b7 t7))).takes 0 4 1 Version 2
     refl (omega arith) (record {
       entry = 0;
@@ -159,7 +163,7 @@ abbrev pub b9 : Board
 b9 = with_status b8 0 (record { number = 4; stage = Idle })
 
 abbrev pub k9 : PassKnows
-k9 = after_clearing k7
+k9 = after_clearing k7 (committed 5)
 
 abbrev v8 : View
 v8 = record v0 { notes = clean 0 4 1 Version ∷ [] }
@@ -182,9 +186,9 @@ gone_by_now = record {
   each = clean_at;
 }
 
-pub step9 : Comes any_form two 0 b8 t7 w4 h8 step6.0 b9 t7 w4 h8 step6.0 k9
+pub step9 : Comes bare_form two 0 b8 t7 w4 h8 step6.0 b9 t7 w4 h8 step6.0 k9
 unfolding place_at
-step9 = (steps b7 t7 w4 h7 step6.0 b8 t7 w4 h8 step6.0 k7 v8 step8 (owns v8 refl) noted8).clears (record {
+step9 = (steps b7 t7 w4 h7 step6.0 b8 t7 w4 h8 step6.0 k7 v8 step8 (owns v8 refl) noted8).clears (committed 5) (0, refl) (record {
   stage = committed 5;
   decided = (0, refl);
   places = record { count = 1; counted = inr (refl, refl, refl, refl); each = place_at };

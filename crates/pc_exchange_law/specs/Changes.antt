@@ -53,12 +53,13 @@ pub record Leads (h : History) (b' : Board) (t' : Past) (h' : History) : Type 0 
   pub keeps : Keeps h h'
   pub tied : IsTied b' t' h'
 
--- the clock, the statuses, the words of the nodes, the attempts and the plain values stay
+-- the clock, the statuses, the words of the nodes, the attempts, the cells and the plain values stay
 pub record ShowsSame (b : Board) (t : Past) (b' : Board) (t' : Past) : Type 0 where
   pub clock : b'.clock ≡ b.clock
   pub statuses : (p : ℕ) → b'.status p ≡ b.status p
   pub words : (n : ℕ) (f : Field) → b'.cell n f ≡ b.cell n f
   pub attempts : (p a : ℕ) → t'.attempt p a ≡ t.attempt p a
+  pub cells : (n : ℕ) (f : Field) → t'.cells n f ≡ t.cells n f
   pub plain : (n : ℕ) (f : Field) → t'.plain n f ≡ t.plain n f
 
 -- a word may become this one: a reference that it then is holds, and the exchange whose reference leaves is decided

@@ -1,6 +1,6 @@
 -- What a pass has to know before it makes each kind of step of an exchange: facts on its own view and on what it knows
 -- beside it.
-use Rattle.std.specs.Prelude.{◌≡◌, ◌≢◌, ℕ, ◌+◌, ◌^◌, ◌<◌, ◌≤◌, ◌⊎◌, true, false, List, []}
+use Rattle.std.specs.Prelude.{◌≡◌, ◌≢◌, ℕ, ◌+◌, ◌^◌, ◌<◌, ◌≤◌, ◌⊎◌, true, false, List, [], None, Some}
 use Rattle.pc_model.specs.declared.cell.Field.{Field}
 use Rattle.pc_model.specs.declared.cell.Field.TheVariants.{Version}
 use Rattle.pc_model.specs.Exchanges.{Visited, Changed, Exchange}
@@ -11,14 +11,17 @@ use Rattle.pc_rule_law.specs.Board.{Size}
 use Rattle.pc_rule_law.specs.Past.{Has, Attempt, change, Describes, IsFormed}
 use Rattle.pc_rule_law.specs.Views.{held, clean, View}
 use Rattle.pc_protocol.specs.Histories.{Cause, withdrawn, ended, changed, locked, Stage, committed, value_by}
+use Rattle.pc_protocol.specs.Links.{MarksAlone}
 use Rattle.pc_protocol.specs.Notes.{value, by, clock_was, visited, read_word, saw, looked, published, drew, verdict, rival, outdated}
 use Rattle.pc_protocol.specs.Seeing.{ChangesVersion, Covers}
 use Rattle.pc_exchange_law.specs.Ties.{code, last_stamp, exchange_of}
 use Rattle.pc_exchange_law.specs.Changes.{RaisesNodes}
 use Rattle.pc_exchange_law.specs.Attempts.{word_in, KnowsWord, KnowsEntry, KnowsVisit, KnowsPlaces}
 use Rattle.pc_exchange_law.specs.Knowing.{IsAboveSeen}
+use Rattle.pc_exchange_law.specs.OwnSlots.{MakesOwn}
 use Rattle.pc_exchange_law.specs.Passes.{PassKnows}
 use Rattle.pc_exchange_law.specs.Paths.{Path, read_of}
+use Rattle.pc_exchange_law.specs.Slots.{IsHeldOrVisited}
 use Rattle.pc_exchange_law.specs.Wholes.{Whole}
 
 -- the own descriptor is written while no attempt is published
@@ -63,8 +66,8 @@ pub record VisitsPath (k : PassKnows) (path : Path) (c : ℕ) (x : Attempt) : Ty
 abbrev pub GoesByPath : PassKnows → Path → ℕ → Attempt → Type 0
 GoesByPath k path c x = ((x.mode ≡ 0) × VisitsNothing x) ⊎ ((x.mode ≢ 0) × VisitsPath k path c x)
 
--- a publication of the next attempt: the stored words describe it, it raises its nodes, it keeps cells sound, the old
--- numbers of its words are known, the clock was read, and it visits and reads nothing, or goes by the pass's path
+-- a publication of the next attempt: the stored words describe it, it raises its nodes or marks them, it keeps cells sound, its
+-- nodes are held or visited, the old numbers of its words are known, the clock was read, and it visits and reads nothing, or goes by the pass's path
 pub record MayPublish (form : Form) (z : Size) (k : PassKnows) (path : Path) (x : Attempt) (c : ℕ) (keys : List ℕ)
     : Type 0 where
   pub rests : k.own.busy ≡ false
@@ -74,6 +77,11 @@ pub record MayPublish (form : Form) (z : Size) (k : PassKnows) (path : Path) (x 
   pub above : IsAboveSeen k.told c
   pub formed : IsFormed z.slots x
   pub raises : RaisesNodes x
+  -- one that marks a node changes no other word of it
+  pub marks : MarksAlone (exchange_of x)
+  -- the nodes of its words are known to be in use, or were visited, and the node that it makes is that of the own spare
+  pub touches : (a : Changed) → IsAmong a x.changes → IsHeldOrVisited k path.visits a.node
+  pub makes : MakesOwn k.slots x.fresh
   pub seen : GoesByPath k path c x
   pub described : Describes z.slots x (word_in k.own.words)
   pub fits : Fits form z.slots (exchange_of x) keys
@@ -148,6 +156,31 @@ pub record MayClear (v : View) (k : PassKnows) : Type 0 where
   pub places : KnowsPlaces k.noted v.seat k.own v.seat k.own.number
   pub each : (i : ℕ) (below : i < places.count)
       → Has v.notes (clean v.seat k.own.number (places.each i below).0 (places.each i below).1)
+
+-- a pass that rests and has no spare may take the next slot of its share
+pub record MayTakeSlot (k : PassKnows) (n : ℕ) : Type 0 where
+  pub rests : k.own.busy ≡ false
+  pub next : n ≡ k.slots.next
+  pub within : n < k.slots.until
+  pub no_spare : k.slots.spare ≡ None
+
+-- a pass that rests may fill a number into a word of its spare; the version is filled with the one above that which was found
+pub record MayFill (k : PassKnows) (n : ℕ) (f : Field) (v : ℕ) : Type 0 where
+  pub rests : k.own.busy ≡ false
+  pub is_spare : k.slots.spare ≡ Some n
+  pub version : f ≡ Version → v ≡ k.slots.version + 1
+  pub small : v < 2 ^ 62
+
+-- a node is known to be visited by an attempt for which a stamp was drawn
+pub record VisitsForDraw (x : Whole) (n : ℕ) : Type 0 where
+  pub seat : ℕ
+  pub number : ℕ
+  pub low : seat < 64
+  pub stamp : ℕ
+  pub drawn : Has x.knows.told (drew (code seat number) stamp)
+  pub index : ℕ
+  pub version : ℕ
+  pub known : KnowsVisit x.view.size.slots x.knows.noted x.view.seat x.knows.own seat number index n version
 
 -- an attempt is known to be gone from all words: the word of each entry is known, and is known to be clean of it
 pub record KnowsCleared (x : Whole) (p a : ℕ) : Type 0 where

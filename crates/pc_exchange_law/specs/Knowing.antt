@@ -11,12 +11,13 @@ use Rattle.pc_words.specs.declared.status.Status.{Status}
 use Rattle.pc_rule_law.specs.Board.{Board}
 use Rattle.pc_rule_law.specs.Past.{Has, Past}
 use Rattle.pc_rule_law.specs.Stages.{IsIdle, IsOpen}
-use Rattle.pc_protocol.specs.Histories.{withdrawn, ended, changed, locked, Stage, absent, undecided, committed, aborted, History}
+use Rattle.pc_protocol.specs.Histories.{withdrawn, ended, changed, locked, Stage, absent, undecided, committed, aborted, History, IsSpare}
 use Rattle.pc_protocol.specs.Notes.{Note, clock_was, visited, read_word, saw, published, held, drew, verdict, rival, in_run, outdated}
 use Rattle.pc_protocol.specs.Seeing.{Visits}
 use Rattle.pc_protocol.specs.Telling.{IsNoted}
 use Rattle.pc_exchange_law.specs.Ties.{code, last_stamp, IsStageOf}
 use Rattle.pc_exchange_law.specs.Attempts.{Scripts, AttemptNote, came_to, loaded_word, listed_word, calm, calm_but}
+use Rattle.pc_exchange_law.specs.OwnSlots.{makes_one, slots_cleared, made_by}
 use Rattle.pc_exchange_law.specs.Passes.{PassKnows, IsKnown}
 
 abbrev pub with_more : PassKnows → List AttemptNote → List Note → PassKnows
@@ -28,6 +29,7 @@ with_more k noted told = record k { noted = noted ++ k.noted; told = told ++ k.t
 pub record Learns (k k' : PassKnows) : Type 0 where
   pub own : k'.own ≡ k.own
   pub ready : k'.ready ≡ k.ready
+  pub slots : k'.slots ≡ k.slots
   pub noted : (n : AttemptNote) → Has k.noted n → Has k'.noted n
   pub told : (n : Note) → Has k.told n → Has k'.told n
 
@@ -84,7 +86,7 @@ after_own_store k place x = record k { own = record k.own { words = (place, x) �
 
 -- a publication of exchange x, which is this one, with the clock that was read before
 abbrev pub after_publication : PassKnows → ℕ → PathExchange → ℕ → PassKnows
-after_publication k x e c = record (with_more k [] (published x e c ∷ [])) { own = record k.own { number = k.own.number + 1; busy = true; withdrew = false } }
+after_publication k x e c = record (with_more k [] (published x e c ∷ [])) { own = record k.own { number = k.own.number + 1; busy = true; withdrew = false }; slots = record k.slots { named = makes_one e.fresh } }
 
 -- a draw for exchange x at a stamp; and, below, one that is refused at this clock
 abbrev pub after_draw : PassKnows → ℕ → ℕ → PassKnows
@@ -124,8 +126,9 @@ after_decision k x st = with_more k [] (verdict x st ∷ outdated_by x st)
 abbrev pub after_withdrawal : PassKnows → ℕ → Stage → PassKnows
 after_withdrawal k x st = record (with_more k [] (verdict x st ∷ [])) { own = record k.own { withdrew = true } }
 
-abbrev pub after_clearing : PassKnows → PassKnows
-after_clearing k = record k { own = record k.own { busy = false } }
+-- the own attempt, which was decided so, is cleared: a node that it made is in use then
+abbrev pub after_clearing : PassKnows → Stage → PassKnows
+after_clearing k st = record (with_more k [] (made_by st k.slots.named k.slots.spare)) { own = record k.own { busy = false }; slots = slots_cleared k.slots st }
 
 -- ---- each load tells what is so
 
@@ -134,8 +137,8 @@ pub record LoadsTellPasses (b : Board) (t : Past) (w : Scripts) (h : History) (l
   pub descriptor : (p place : ℕ)
       → (k' : PassKnows) × DescriptorLoaded k p place (b.word p place) k' × IsKnown b t w h late id k'
   pub status : (p : ℕ) → p < 64 → (k' : PassKnows) × StatusSeen k p (b.status p) k' × IsKnown b t w h late id k'
-  -- a plain word has the plain value
-  pub word : (n : ℕ) (f : Field) → ((x : ℕ) → b.cell n f ≡ Plain x → t.plain n f ≡ x)
+  -- a word of a node that is no spare; a plain word has the plain value
+  pub word : (n : ℕ) (f : Field) → (IsSpare (h.slot n) → ⊥) → ((x : ℕ) → b.cell n f ≡ Plain x → t.plain n f ≡ x)
       → (k' : PassKnows) × WordSeen k n f (b.cell n f) k' × IsKnown b t w h late id k'
   pub clock : (e : PathExchange) (early : Bool) → IsNoted h e → (early ≡ true → b.clock < last_stamp)
       → IsKnown b t w h late id (after_clock k b.clock e early)

@@ -7,8 +7,10 @@ pub mod ExchangeConditions
 pub mod ExchangeLaws
 pub mod FieldCodes
 pub mod Knowing
+pub mod OwnSlots
 pub mod Passes
 pub mod Paths
+pub mod Slots
 pub mod TieLaws
 pub mod Ties
 pub mod ViewNotes

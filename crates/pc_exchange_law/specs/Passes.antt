@@ -6,11 +6,14 @@ use Rattle.pc_rule_law.specs.Past.{Has, Past}
 use Rattle.pc_protocol.specs.Histories.{History}
 use Rattle.pc_protocol.specs.Notes.{Note, IsTrueNote}
 use Rattle.pc_exchange_law.specs.Attempts.{Scripts, OwnAttempt, OwnsAttempt, AttemptNote, IsTrueAttemptNote}
+use Rattle.pc_exchange_law.specs.OwnSlots.{OwnSlots}
 
 pub record PassKnows : Type 0 where
   pub own : OwnAttempt
   -- the last load of the clock found it below the last stamp, and the pass drew nothing since
   pub ready : Bool
+  -- its slots
+  pub slots : OwnSlots
   pub noted : List AttemptNote
   pub told : List Note
 

@@ -8,7 +8,7 @@ use Rattle.pc_model.specs.Exchanges.{Visited, Seen, Exchange}
 use Rattle.pc_words.specs.declared.word.WordKind.{WordKind}
 use Rattle.pc_words.specs.declared.word.WordKind.TheVariants.{Plain, Install, Exchange as Refers}
 use Rattle.pc_history.specs.Footprints.{IsAmong}
-use Rattle.pc_protocol.specs.Histories.{History}
+use Rattle.pc_protocol.specs.Histories.{History, IsUsed}
 use Rattle.pc_protocol.specs.Notes.{value, saw, looked, IsTrueNote}
 use Rattle.pc_protocol.specs.Owned.{IsUnread}
 use Rattle.pc_protocol.specs.Telling.{IsNoted}
@@ -38,6 +38,8 @@ pub record IsPathOf (h : History) (j : ℕ) (p : Path) : Type 0 where
   pub seen : (s : ℕ) → p.stamp ≡ Some s → IsTrueNote h (saw s (read_of p))
   pub checked : (s : ℕ) (v : Visited) → p.stamp ≡ Some s → IsAmong v p.visits
       → IsAmong v p.left ⊎ IsTrueNote h (looked s v.node (value v.version))
+  -- each node that was visited, or is to be checked, is in use
+  pub used : (v : Visited) → IsAmong v p.visits ⊎ IsAmong v p.left → IsUsed (h.slot v.node)
 
 -- a stamp was drawn for the read of the path, and this is the node of the next visit that is to be checked for it
 pub record MayCheck (p : Path) (n : ℕ) : Type 0 where
@@ -61,9 +63,9 @@ begun_path = record { begun = true; visits = []; reads = []; stamp = None; left 
 abbrev pub ended_path : Path
 ended_path = record { begun = false; visits = []; reads = []; stamp = None; left = [] }
 
--- a pass that is made has begun an operation, as long as passes come open, and has visited nothing
+-- a pass that is made is at rest
 abbrev pub new_path : Path
-new_path = begun_path
+new_path = ended_path
 
 -- one visit more; and one read more
 abbrev pub more_visits : Path → ℕ → ℕ → Path

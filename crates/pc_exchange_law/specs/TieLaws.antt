@@ -2,8 +2,8 @@
 use Rattle.std.specs.Prelude.{◌≡◌, ◌≢◌, ℕ, ◌+◌, ◌<◌, ◌≤◌, ◌⊎◌, List, [], Option, Some, None, false}
 use Rattle.pc_model.specs.declared.cell.Field.{Field}
 use Rattle.pc_model.specs.declared.cell.Field.TheVariants.{Version}
-use Rattle.pc_model.specs.Cells.{Cells}
-use Rattle.pc_model.specs.Exchanges.{Visited, Changed, Exchange as PathExchange}
+use Rattle.pc_model.specs.Cells.{Cells, IsOdd}
+use Rattle.pc_model.specs.Exchanges.{Visited, Changed, FreshNode, Exchange as PathExchange}
 use Rattle.pc_model.specs.Forms.{Form, IsSound, Fits}
 use Rattle.pc_words.specs.declared.word.WordKind.{WordKind}
 use Rattle.pc_words.specs.declared.word.WordKind.TheVariants.{Plain, Exchange}
@@ -17,16 +17,15 @@ use Rattle.pc_rule_law.specs.Rule.{Shared}
 use Rattle.pc_rule_law.specs.Values.{IsPlainValue}
 use Rattle.pc_rule_law.specs.Openings.{opening_board, opening_attempt, opening_words}
 use Rattle.pc_rule_law.specs.Seats.{opening_past}
-use Rattle.pc_protocol.specs.Histories.{Purpose, for_exchange, for_read, Cause, withdrawn, ended, changed, locked, Stage, committed, aborted, used}
-use Rattle.pc_protocol.specs.Histories.{History, moments, IsPublished, IsUndecided, value_by}
-use Rattle.pc_protocol.specs.Rules.{Rule}
+use Rattle.pc_protocol.specs.Histories.{Purpose, for_exchange, for_read, Cause, withdrawn, ended, changed, locked, Stage, committed, aborted, used, History, moments, IsPublished, IsUndecided, value_by, cells_now, IsSpare}
+use Rattle.pc_protocol.specs.Rules.{Rule, IsReady}
 use Rattle.pc_protocol.specs.Seeing.{Visits, ChangesVersion, Covers, Saw}
 use Rattle.pc_protocol.specs.Serving.{HasPassedByNotes}
 use Rattle.pc_protocol.specs.Notes.{clock_was, visited, read_word, held, drew, verdict, rival, in_run, outdated, IsTrueNote}
 use Rattle.pc_protocol.specs.Bases.{IsBased}
 use Rattle.pc_protocol.specs.Steps.{draw, CanDraw, publish, CanPublish, commit, CanCommit, abort, CanAbort, refer, CanRefer}
-use Rattle.pc_protocol.specs.Openings.{opened}
-use Rattle.pc_exchange_law.specs.Ties.{code, seat_in, number_in, last_stamp, reference_in, IsStageOf, exchange_of, IsTied}
+use Rattle.pc_protocol.specs.Openings.{opened, opening_slots}
+use Rattle.pc_exchange_law.specs.Ties.{code, seat_in, number_in, last_stamp, reference_in, IsStageOf, exchange_of, CellsAreSound, IsTied}
 use Rattle.pc_exchange_law.specs.Changes.{with_word, with_status, with_next_stamp, with_installs, with_values, at_stage}
 use Rattle.pc_exchange_law.specs.Changes.{stage_by, Leads, ShowsSame, MayBecome, HoldsAll, RaisesNodes, Succeeds}
 
@@ -40,13 +39,15 @@ pub record CodesAreInverse : Type 0 where
 
 -- the history of a board that opens with these cells, at this clock
 abbrev pub opening_history : Cells → ℕ → History
-opening_history cells start = opened cells start last_stamp seat_in (λ n. used)
+opening_history cells start = opened cells start last_stamp seat_in opening_slots
 
--- each word is the plain number of the cells, and no pass has published anything
+-- each word is the plain number of the cells, every slot is marked, and no pass has published anything
 pub record OpensIdle (b : Board) (t : Past) (cells : Cells) : Type 0 where
   pub words : (n : ℕ) (f : Field) → b.cell n f ≡ Plain (cells n f)
   pub idle : (p : ℕ) → IsIdle (b.status p).stage
   pub plain : (n : ℕ) (f : Field) → t.plain n f ≡ cells n f
+  pub cells_are : (n : ℕ) (f : Field) → t.cells n f ≡ cells n f
+  pub marked : (n : ℕ) → n ≢ 1 → IsOdd (cells n Version)
   -- the attempts up to the present ones have no changes
   pub attempts : (p a : ℕ) (x : Changed) → a ≤ (b.status p).number → Has (t.attempt p a).changes x → ⊥
 
@@ -57,7 +58,7 @@ pub record HasOpened (b : Board) (t : Past) (cells : Cells) : Type 0 where
 pub record OpeningsAreTied : Type 0 where
   pub any : (b : Board) (t : Past) (cells : Cells) → OpensIdle b t cells → HasOpened b t cells
   -- the board of an opening at which no exchange is given
-  pub usual : (z : Size) (cells : Cells)
+  pub usual : (z : Size) (cells : Cells) → ((n : ℕ) → n ≢ 1 → IsOdd (cells n Version))
       → HasOpened (opening_board z cells []) (opening_past cells (opening_attempt []) (opening_words []) false) cells
 
 -- ---- the steps
@@ -82,6 +83,7 @@ pub record StepsStayTied (z : Size) (b : Board) (t : Past) (h : History) : Type 
   -- a success at a stamp
   pub succeeds : (p s : ℕ) (cells' plain' : Cells) → p < 64 → CanCommit h (code p (b.status p).number) s
       → ((n : ℕ) (f : Field) → plain' n f ≡ (commit h (code p (b.status p).number) s).plain n f)
+      → ((n : ℕ) (f : Field) → cells' n f ≡ cells_now (commit h (code p (b.status p).number) s) n f)
       → Leads h (with_status b p (at_stage b p (Succeeded s))) (with_values t cells' plain' t.attempt t.words)
       (commit h (code p (b.status p).number) s)
   -- a failure for a cause
@@ -92,11 +94,18 @@ pub record StepsStayTied (z : Size) (b : Board) (t : Past) (h : History) : Type 
 
 -- ---- what a step owes, in words of the board
 
+-- the node that an exchange makes is ready, no other exchange makes it, and none of the changes is of it
+pub record MayMake (h : History) (e : PathExchange) : Type 0 where
+  pub ready : (g : FreshNode) → e.fresh ≡ Some g → IsReady (cells_now h) h.plain h.slot g
+  pub apart : (y : ℕ) (g k : FreshNode) → IsUndecided (h.stage y) → e.fresh ≡ Some g → (h.op y).fresh ≡ Some k
+      → g.node ≢ k.node
+  pub unchanged : (a : Changed) (g : FreshNode) → IsAmong a e.changes → e.fresh ≡ Some g → a.node ≢ g.node
+
 pub record WordsServe (z : Size) (b : Board) (t : Past) (h : History) : Type 0 where
   pub refer : (n : ℕ) (f : Field) (c : WordKind) → MayBecome z b t n f c → CanRefer h n f (reference_in c)
   pub draw : (p a : ℕ) → p < 64 → IsPublished (h.stage (code p a)) → HoldsAll b t p a → CanDraw h (code p a)
   pub publish : (p c : ℕ) (x : Attempt) → p < 64 → c ≤ b.clock → IsFormed z.slots x → RaisesNodes x
-      → Saw (moments h) c (exchange_of x)
+      → Saw (moments h) c (exchange_of x) → MayMake h (exchange_of x)
       → CanPublish h (code p ((b.status p).number + 1)) (exchange_of x) c
   -- each visit is of a version that the attempt changes, or passed the check for the stamp
   pub commit : (p a s : ℕ) → p < 64 → IsUndecidedAttempt b.status p a → IsTrueNote h (drew (code p a) s)
@@ -122,10 +131,10 @@ SuccessesServe b t h = (p a s : ℕ) → p < 64 → (b.status p).number ≡ a �
 -- ---- what loads tell
 
 pub record BoardTells (b : Board) (t : Past) (h : History) : Type 0 where
-  -- the clock; a version; another word, after a visit of its node; a reference
+  -- the clock; a version, and another word after a visit of its node, which is no spare; a reference
   pub clock : IsTrueNote h (clock_was b.clock)
-  pub version : (n : ℕ) → IsTrueNote h (visited n (t.plain n Version) b.clock)
-  pub word : (n v c : ℕ) (f : Field) → IsTrueNote h (visited n v c)
+  pub version : (n : ℕ) → (IsSpare (h.slot n) → ⊥) → IsTrueNote h (visited n (t.plain n Version) b.clock)
+  pub word : (n v c : ℕ) (f : Field) → (IsSpare (h.slot n) → ⊥) → IsTrueNote h (visited n v c)
       → IsTrueNote h (read_word n v f (t.plain n f) b.clock)
   pub reference : (n : ℕ) (f : Field) (p a : ℕ) → b.cell n f ≡ Exchange p a → IsTrueNote h (held (code p a) n f)
   -- an attempt is published: by a status that isn't idle, or by a change that it has
@@ -156,7 +165,7 @@ pub record BoardTells (b : Board) (t : Past) (h : History) : Type 0 where
   -- an attempt that rests on the old numbers of its words is outdated where a word has another plain value; and so is
   -- one that failed since a node changed
   pub outdates : (p a : ℕ) (x : Changed) → p < 64 → a ≤ (b.status p).number → Has (t.attempt p a).changes x
-      → IsBased h (code p a) → t.plain x.node x.field ≢ x.old
+      → IsBased h (code p a) → (IsSpare (h.slot x.node) → ⊥) → t.plain x.node x.field ≢ x.old
       → IsTrueNote h (outdated (code p a) x.node)
   pub was_outdated : (x n : ℕ) → IsTrueNote h (verdict x (aborted (changed n))) → IsTrueNote h (outdated x n)
   -- one that failed since a node was locked, which it visits: the rival is another pass, by the clock before its publication
@@ -192,8 +201,9 @@ pub record RunTells (b : Board) (t : Past) (h : History) : Type 0 where
   pub maker : (y s : ℕ) → h.stage y ≡ committed s → maker_of (h.drawn_for s) ≡ Some y
   -- at a stamp that isn't below the clock that was read before its publication
   pub since : (y s : ℕ) → h.stage y ≡ committed s → h.published_at y ≤ s
-  -- the cells that they leave are the plain values
-  pub leaves : (n : ℕ) (f : Field) → cells_after h.opening (run_up_to h) n f ≡ t.plain n f
+  -- the cells that they leave, which are the plain values but for spares
+  pub leaves : (n : ℕ) (f : Field) → cells_after h.opening (run_up_to h) n f ≡ t.cells n f
+  pub shown : (n : ℕ) (f : Field) → (IsSpare (h.slot n) → ⊥) → t.cells n f ≡ t.plain n f
   -- what took effect at a stamp, an attempt or a read, stands in it
   pub item_stands : (s : ℕ) (e : PathExchange) → h.item s ≡ Some e → IsAmong (record { stamp = s; what = e }) (run_up_to h)
   -- an attempt that took effect stands in it at its stamp
@@ -202,14 +212,14 @@ pub record RunTells (b : Board) (t : Past) (h : History) : Type 0 where
   pub succeeded_stands : (p s : ℕ) → p < 64 → (b.status p).stage ≡ Succeeded s
       → IsAmong (record { stamp = s; what = exchange_of (t.attempt p (b.status p).number) }) (run_up_to h)
 
--- the words of the board show the cells that the run leaves
+-- the words of the board show the cells that the run leaves, but for spares
 abbrev pub RunIsShown : Form → Size → Board → Past → History → Type 0
-RunIsShown form z b t h = Shared (IsSound form) z b t
-    → (n : ℕ) (f : Field) → IsPlainValue b n f (b.cell n f) (cells_after h.opening (run_up_to h) n f)
+RunIsShown form z b t h = Shared (CellsAreSound form) z b t
+    → (n : ℕ) (f : Field) → (IsSpare (h.slot n) → ⊥) → IsPlainValue b n f (b.cell n f) (cells_after h.opening (run_up_to h) n f)
 
--- where each published exchange fits, the plain values are sound cells
-abbrev pub PlainValuesAreSound : Form → Type 0
-PlainValuesAreSound form = (slots : ℕ) (b : Board) (t : Past) (h : History) (charged : ℕ → ℕ → List ℕ) → Rule h → IsTied b t h
+-- where each published exchange fits, the cells that the run leaves are sound
+abbrev pub RunLeavesSound : Form → Type 0
+RunLeavesSound form = (slots : ℕ) (b : Board) (t : Past) (h : History) (charged : ℕ → ℕ → List ℕ) → Rule h → IsTied b t h
     → ((p a : ℕ) → p < 64 → IsPublished (h.stage (code p a)) → Fits form slots (exchange_of (t.attempt p a)) (charged p a))
     → IsSound form slots h.opening
-    → IsSound form slots t.plain
+    → IsSound form slots t.cells

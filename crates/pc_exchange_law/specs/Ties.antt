@@ -2,7 +2,9 @@
 -- holds, how far each attempt has come, and what it is.
 use Rattle.std.specs.Prelude.{◌≡◌, ℕ, ◌+◌, ◌*◌, ◌/◌, ◌%◌, ◌<◌, ◌≤◌, ◌⊎◌, Option, Some, None}
 use Rattle.pc_model.specs.declared.cell.Field.{Field}
+use Rattle.pc_model.specs.Cells.{Cells}
 use Rattle.pc_model.specs.Exchanges.{Changed, Exchange as PathExchange}
+use Rattle.pc_model.specs.Forms.{Form, IsSound}
 use Rattle.pc_words.specs.declared.word.WordKind.{WordKind}
 use Rattle.pc_words.specs.declared.word.WordKind.TheVariants.{Plain, Install, Exchange}
 use Rattle.pc_words.specs.declared.status.Stage.{Stage as StatusStage}
@@ -11,7 +13,7 @@ use Rattle.pc_words.specs.declared.status.Status.{Status}
 use Rattle.pc_rule_law.specs.Board.{Board}
 use Rattle.pc_rule_law.specs.Past.{Has, Attempt, Past}
 use Rattle.pc_protocol.specs.Histories.{withdrawn, ended, changed, locked, Stage, absent, undecided, committed, aborted}
-use Rattle.pc_protocol.specs.Histories.{History, IsPublished, IsUndecided, IsUsed}
+use Rattle.pc_protocol.specs.Histories.{History, cells_now, IsPublished, IsUndecided}
 
 -- the protocol's number of an attempt, by the seat of its pass, below 64, and the attempt's number; and back
 abbrev pub code : ℕ → ℕ → ℕ
@@ -56,9 +58,14 @@ pub record SaysOf (s : Status) (a : ℕ) (st : Stage) : Type 0 where
   pub present : a ≡ s.number → IsStageOf s.stage st
   pub later : s.number < a → st ≡ absent
 
--- the exchange that an attempt is to make. Until slots are used again it makes no node
+-- the exchange that an attempt is to make
 abbrev pub exchange_of : Attempt → PathExchange
-exchange_of x = record { visits = x.visits; reads = x.reads; changes = x.changes; fresh = None }
+exchange_of x = record { visits = x.visits; reads = x.reads; changes = x.changes; fresh = x.fresh }
+
+-- what is asked of the cells that the run leaves: that they are sound for a shape. Nothing is asked of the plain values, since
+-- the words of spares are filled
+abbrev pub CellsAreSound : Form → ℕ → Cells → Cells → Type 0
+CellsAreSound form slots c plain = IsSound form slots c
 
 pub record IsTied (b : Board) (t : Past) (h : History) : Type 0 where
   pub clock : h.clock ≡ b.clock
@@ -68,11 +75,12 @@ pub record IsTied (b : Board) (t : Past) (h : History) : Type 0 where
   pub references : (n : ℕ) (f : Field) → h.reference n f ≡ reference_in (b.cell n f)
   pub seated : (n : ℕ) (f : Field) → IsSeated (b.cell n f)
   pub plain : (n : ℕ) (f : Field) → h.plain n f ≡ t.plain n f
+  -- the cells that the run leaves, which are the plain values but for spares
+  pub cells : (n : ℕ) (f : Field) → t.cells n f ≡ cells_now h n f
   -- the attempts: how far each has come; those up to the present one that have a change are published; and what each is
   pub stages : (p a : ℕ) → p < 64 → SaysOf (b.status p) a (h.stage (code p a))
   pub published : (p a : ℕ) (x : Changed) → p < 64 → a ≤ (b.status p).number → Has (t.attempt p a).changes x
       → IsPublished (h.stage (code p a))
   pub exchanges : (p a : ℕ) → p < 64 → IsPublished (h.stage (code p a)) → h.op (code p a) ≡ exchange_of (t.attempt p a)
-  -- until slots are used again no node is a spare, and the clock isn't read after clearing
-  pub used : (n : ℕ) → IsUsed (h.slot n)
+  -- until slots are used again the clock isn't read after clearing
   pub uncleared : (x : ℕ) → h.cleared_at x ≡ None

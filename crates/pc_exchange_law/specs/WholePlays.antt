@@ -4,8 +4,9 @@ use Rattle.std.specs.Prelude.{◌≡◌, ◌≢◌, ℕ, ◌+◌, ◌*◌, ◌<�
 use Rattle.atomic_table.specs.Table.{Me}
 use Rattle.pc_model.specs.declared.cell.Field.{Field}
 use Rattle.pc_model.specs.declared.cell.Field.TheVariants.{Version}
-use Rattle.pc_model.specs.Cells.{IsEven}
+use Rattle.pc_model.specs.Cells.{IsEven, IsOdd}
 use Rattle.pc_model.specs.Exchanges.{Visited, Exchange as PathExchange}
+use Rattle.pc_model.specs.Linked.{IsLinkField}
 use Rattle.pc_words.specs.declared.word.WordKind.{WordKind}
 use Rattle.pc_words.specs.declared.word.WordKind.TheVariants.{Plain, Install, Exchange}
 use Rattle.pc_words.specs.declared.status.Stage.{Stage as StatusStage}
@@ -21,11 +22,12 @@ use Rattle.pc_rule_law.specs.Views.{Note, decided_below, clean, removed, View, w
 use Rattle.pc_rule_law.specs.Plays.{IsNotedSince, IsLater, IsWell, Told, SameSeat, found, after_store, InstallLoaded, ClockLoaded}
 use Rattle.pc_rule_law.specs.Plays.{DescriptorLoaded as ViewLoaded, StatusLoaded, InstallTried, InstallTaken, after_write, after_publish}
 use Rattle.pc_protocol.specs.Histories.{withdrawn, ended, changed, locked, Stage, absent, undecided, committed, aborted}
-use Rattle.pc_protocol.specs.Notes.{value, by, clock_was, visited, looked, published, drew, verdict, rival, in_run, outdated}
+use Rattle.pc_protocol.specs.Notes.{value, by, clock_was, visited, looked, drew, verdict, in_use, rival, in_run, outdated, published}
 use Rattle.pc_protocol.specs.Seeing.{Covers}
 use Rattle.pc_exchange_law.specs.Attempts.{word_in, calm, calm_but, KnowsWord, KnowsEntry, KnowsVisit}
 use Rattle.pc_exchange_law.specs.Ties.{code, last_stamp, exchange_of}
 use Rattle.pc_exchange_law.specs.ExchangeConditions.{KnowsCleared}
+use Rattle.pc_exchange_law.specs.OwnSlots.{MakesOwn, makes_one, with_spare, with_filled}
 use Rattle.pc_exchange_law.specs.Passes.{PassKnows}
 use Rattle.pc_exchange_law.specs.Paths.{Path, read_of, begun_path, ended_path, with_visit, with_read, with_stamp, with_left, without_stamp}
 use Rattle.pc_exchange_law.specs.Knowing.{IsAboveSeen, DescriptorLoaded, StatusSeen, WordSeen, after_clock, after_own_store}
@@ -114,6 +116,8 @@ pub record CellSeen (x : Whole) (n : ℕ) (f : Field) (r : ℕ) (y : Whole) : Ty
   pub rises : (v at w : ℕ) → f ≡ Version → kind r ≡ Plain w → Has x.knows.told (visited n v at) → v ≤ w
   pub after_visits : (v : Visited) (w : ℕ) → f ≡ Version → kind r ≡ Plain w → IsAmong v x.path.visits → v.node ≡ n → v.version ≤ w
   pub sentinel : (w : ℕ) → n ≡ 1 → f ≡ Version → kind r ≡ Plain w → IsEven w
+  -- the node that a link names is in use
+  pub leads : (m : ℕ) → IsLinkField f → kind r ≡ Plain m → m ≢ 0 → Has y.knows.told (in_use m)
 
 abbrev pub SeesCell : Whole → ℕ → Whole → Place → Type 0
 SeesCell x r y (at_cell n f) = CellSeen x n f r y × (y.path ≡ x.path)
@@ -137,21 +141,23 @@ pub record CountsReads (path : Path) (e : Attempt) : Type 0 where
   pub none : e.mode ≡ 0 → (e.visits ≡ []) × (e.reads ≡ [])
   pub all : e.mode ≢ 0 → e.reads ≡ path.reads
 
--- the own next attempt is published: it is one that the stored words describe
-abbrev pub HasPublished : Whole → Whole → Place → Type 0
-HasPublished x y (at_own i own_status) = i ≡ x.view.seat
+-- the own next attempt is published: it is one that the stored words describe, and it makes the spare's node where that is
+-- named
+abbrev pub HasPublished : Bool → Whole → Whole → Place → Type 0
+HasPublished named x y (at_own i own_status) = i ≡ x.view.seat
     → (e : Attempt) × (c : ℕ) × Describes x.view.size.slots e (word_in x.knows.own.words) × Has x.knows.told (clock_was c)
     × (y ≡ record x { view = after_publish x.view; knows = after_publication x.knows (code x.view.seat (x.knows.own.number + 1)) (exchange_of e) c })
-    × CountsReads x.path e × IsAboveSeen x.knows.told c
-HasPublished x y _ = Unit {0}
+    × CountsReads x.path e × IsAboveSeen x.knows.told c × MakesOwn x.knows.slots e.fresh × (makes_one e.fresh ≡ named)
+HasPublished named x y _ = Unit {0}
 
--- the own attempt is cleared
+-- the own attempt is cleared, which is known to be decided so
 abbrev pub after_clear : View → View
 after_clear v = record v { attempt = record v.attempt { published = false } }
 
 abbrev pub HasCleared : Whole → Whole → Place → Type 0
-HasCleared x y (at_own i own_status) = i ≡ x.view.seat
-    → y ≡ record x { view = after_clear x.view; knows = after_clearing x.knows }
+HasCleared x y (at_own i own_status) = i ≡ x.view.seat → (st : Stage)
+    → Has x.knows.told (verdict (code x.view.seat x.knows.own.number) st)
+    → y ≡ record x { view = after_clear x.view; knows = after_clearing x.knows st }
 HasCleared x y _ = Unit {0}
 
 -- ---- a draw, which gives the stamp that is found, for the attempt at which the pass aims; from the last stamp on it is
@@ -303,6 +309,18 @@ pub record PathChecked (p : Path) (r : ℕ) (q : Path) (then : PassKnows) : Type
 abbrev pub ChecksVisit : Whole → ℕ → Whole → Place → Type 0
 ChecksVisit x r y (at_cell n Version) = CellSeen x n Version r y × PathChecked x.path r y.path y.knows
 ChecksVisit x r y _ = Unit {0}
+
+-- a load of the version of the next slot of the own share, which is taken as the spare: a plain number, and odd
+abbrev pub TakesSlot : Whole → ℕ → Whole → Place → Type 0
+TakesSlot x r y (at_cell n Version) = (v : ℕ) × (kind r ≡ Plain v) × IsOdd v
+    × (y ≡ record x { knows = record x.knows { slots = with_spare x.knows.slots v } })
+TakesSlot x r y _ = Unit {0}
+
+-- a number is filled into a word of the own spare
+abbrev pub FilledSpare : Whole → ℕ → Whole → Place → Type 0
+FilledSpare x r y (at_cell n f) = (v : ℕ) → kind r ≡ Plain v
+    → y ≡ record x { knows = record x.knows { slots = with_filled x.knows.slots f v } }
+FilledSpare x r y _ = Unit {0}
 
 -- a load of the epoch, with which an operation begins, or ends. Nothing is told of the epoch as long as it stays
 abbrev pub BeginsPath : Whole → Whole → Place → Type 0

@@ -1,11 +1,11 @@
 -- What each kind of step tells a pass whose view is whole, of the step, the pass before, the number found, or stored, and
 -- the pass after.
-use Rattle.std.specs.Prelude.{ℕ, Bool}
+use Rattle.std.specs.Prelude.{ℕ, Bool, true, false}
 use Rattle.atomic_table.specs.Table.{Step}
 use Rattle.pc_exchange_law.specs.WholePlays.{WholeMine, WholeTells, SeesClock, SeesWord, SeesStatus, SeesInstall, SeesCell}
 use Rattle.pc_exchange_law.specs.WholePlays.{StoredInstall, StoredWord, HasPublished, HasCleared, Draws, HasDecided, HasWithdrawn}
 use Rattle.pc_exchange_law.specs.WholePlays.{WholePlaced, WholeTaken, TookReference, LooksFor, SeesRead, SeesVisit, DrawsRead, ChecksVisit}
-use Rattle.pc_exchange_law.specs.WholePlays.{BeginsPath, EndsPath}
+use Rattle.pc_exchange_law.specs.WholePlays.{BeginsPath, EndsPath, TakesSlot, FilledSpare}
 use Rattle.pc_exchange_law.specs.Paths.{dropped}
 
 -- loads
@@ -32,7 +32,10 @@ abbrev pub whole_stores_word : Step Bool → WholeMine → ℕ → WholeMine →
 whole_stores_word st m r m' = WholeTells m st.word (StoredWord m.0 st.first) m'
 
 abbrev pub whole_publishes : Step Bool → WholeMine → ℕ → WholeMine → Type 0
-whole_publishes st m r m' = WholeTells m st.word (HasPublished m.0) m'
+whole_publishes st m r m' = WholeTells m st.word (HasPublished false m.0) m'
+
+abbrev pub whole_publishes_fresh : Step Bool → WholeMine → ℕ → WholeMine → Type 0
+whole_publishes_fresh st m r m' = WholeTells m st.word (HasPublished true m.0) m'
 
 abbrev pub whole_clears : Step Bool → WholeMine → ℕ → WholeMine → Type 0
 whole_clears st m r m' = WholeTells m st.word (HasCleared m.0) m'
@@ -84,3 +87,11 @@ whole_begins_path st m r m' = WholeTells m st.word (BeginsPath m.0) m'
 
 abbrev pub whole_ends_path : Step Bool → WholeMine → ℕ → WholeMine → Type 0
 whole_ends_path st m r m' = WholeTells m st.word (EndsPath m.0) m'
+
+-- the next slot of the own share is taken
+abbrev pub whole_takes_slot : Step Bool → WholeMine → ℕ → WholeMine → Type 0
+whole_takes_slot st m r m' = WholeTells m st.word (TakesSlot m.0 r) m'
+
+-- a number is filled into a word of the own spare
+abbrev pub whole_fills : Step Bool → WholeMine → ℕ → WholeMine → Type 0
+whole_fills st m r m' = WholeTells m st.word (FilledSpare m.0 st.first) m'

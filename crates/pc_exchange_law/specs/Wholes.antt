@@ -2,17 +2,17 @@
 -- beside its view.
 use Rattle.std.specs.Prelude.{◌≡◌, ℕ, ◌<◌, ◌≤◌, Bool, true, false, List, [], map}
 use Rattle.atomic_table.specs.Table.{State}
-use Rattle.pc_model.specs.declared.cell.Field.TheVariants.{Version}
-use Rattle.pc_model.specs.Cells.{Cells, IsEven}
-use Rattle.pc_model.specs.Forms.{Form, IsSound}
+use Rattle.pc_model.specs.Forms.{Form}
 use Rattle.pc_rule_law.specs.Board.{Size, Board, Represents}
 use Rattle.pc_rule_law.specs.Past.{Past}
 use Rattle.pc_rule_law.specs.Views.{View}
 use Rattle.pc_rule_law.specs.Rule.{Each, Kept}
 use Rattle.pc_protocol.specs.Histories.{History}
 use Rattle.pc_exchange_law.specs.AttemptSteps.{first_attempt}
+use Rattle.pc_exchange_law.specs.OwnSlots.{first_slots, OwnsSlots}
 use Rattle.pc_exchange_law.specs.Passes.{PassKnows, IsKnown}
 use Rattle.pc_exchange_law.specs.Paths.{Path, IsPathOf}
+use Rattle.pc_exchange_law.specs.Ties.{CellsAreSound}
 use Rattle.pc_exchange_law.specs.Worlds.{World}
 
 -- the view of a pass: what the rule of installs speaks of; what the pass knows beside it; the attempt whose status it
@@ -27,27 +27,23 @@ pub record Whole : Type 0 where
 abbrev pub views_of : List Whole → List View
 views_of views = map (λ (x : Whole). x.view) views
 
--- a pass that knows nothing yet
-abbrev pub knows_nothing : ℕ → PassKnows
-knows_nothing start = record { own = first_attempt start; ready = false; noted = []; told = [] }
-
--- in sound cells the sentinel's version is even: it is unmarked
-abbrev pub HasEvenSentinel : Form → Type 0
-HasEvenSentinel form = (slots : ℕ) (c : Cells) → IsSound form slots c → IsEven (c 1 Version)
+-- a pass that knows nothing yet, at its seat
+abbrev pub knows_nothing : Size → ℕ → PassKnows
+knows_nothing z seat = record { own = first_attempt z.starts.attempt; ready = false; slots = first_slots z seat; noted = []; told = [] }
 
 module _ (form : Form) (z : Size) where
   -- it is so, for every pass that isn't joined to another, and for each that isn't made yet. The words of the past's
   -- attempts are those that the world speaks of
   pub record WholeKept (b : Board) (t : Past) (h : History) (late : ℕ → Bool) (views : List Whole) : Type 0 where
-    pub kept : Kept (IsSound form) z b t (views_of views)
+    pub kept : Kept (CellsAreSound form) z b t (views_of views)
     pub world : World form z b t t.words h late
     pub known : Each views (λ j x. x.view.live ≡ true → IsKnown b t t.words h late j x.knows)
     pub paths : Each views (λ j x. x.view.live ≡ true → IsPathOf h j x.path)
-    pub unmade : (j : ℕ) → t.count ≤ j → j < z.seats → IsKnown b t t.words h late j (knows_nothing z.starts.attempt)
+    pub owned : Each views (λ j x. x.view.live ≡ true → OwnsSlots z h j x.knows.own x.knows.slots)
+    pub unmade : (j : ℕ) → t.count ≤ j → j < z.seats → IsKnown b t t.words h late j (knows_nothing z j)
+    pub unowned : (j : ℕ) → t.count ≤ j → j < z.seats → OwnsSlots z h j (first_attempt z.starts.attempt) (first_slots z j)
     -- passes were given no exchange at the opening
     pub none_given : t.posted ≡ false
-    -- what the shape says of the sentinel
-    pub lawful : HasEvenSentinel form
 
   -- the whole rule: the table's words are those of a board, with a past, a history and late seats, that keep it
   pub record WholeHolds (s : State Bool Whole) : Type 0 where

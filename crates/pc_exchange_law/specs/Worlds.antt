@@ -13,6 +13,7 @@ use Rattle.pc_protocol.specs.Bases.{IsBased}
 use Rattle.pc_exchange_law.specs.Ties.{code, exchange_of, IsTied}
 use Rattle.pc_exchange_law.specs.Attempts.{Scripts, AreScripts}
 use Rattle.pc_exchange_law.specs.ClockEnds.{ClockIsBounded}
+use Rattle.pc_exchange_law.specs.Slots.{SoundIsLinked, SlotsKept}
 
 -- all that the exchange visits and reads was seen to be so before it was published
 abbrev pub HasSeen : History → ℕ → Type 0
@@ -34,3 +35,6 @@ pub record World (form : Form) (z : Size) (b : Board) (t : Past) (w : Scripts) (
   pub based : (x : ℕ) → IsPublished (h.stage x) → IsBased h x
   -- and what it visits and reads was so before it was published
   pub seen : (x : ℕ) → IsPublished (h.stage x) → HasSeen h x
+  -- the slots of nodes, and that sound cells are linked
+  pub slots : SlotsKept z b h
+  pub lawful : SoundIsLinked form

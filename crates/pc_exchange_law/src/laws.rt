@@ -2,7 +2,6 @@
 ghost use Rattle.std.specs.Prelude.{◌≤◌, ℕ, Bool, List};
 ghost use Rattle.pc_rule_law.specs.Board.{Board, Size};
 ghost use Rattle.pc_model.specs.Cells.{Cells};
-ghost use Rattle.pc_model.specs.Forms.{IsSound};
 ghost use Rattle.pc_rule_law.specs.Rule.{Own, Shared};
 ghost use Rattle.pc_rule_law.specs.Views.{AllNotes, NoteHolds, View};
 ghost use Rattle.pc_rule_law.specs.Past.{Has, Past};
@@ -21,15 +20,17 @@ ghost use Rattle.pc_exchange_law.specs.ClockEnds.{ClockEnds, ClockIsBounded};
 ghost use Rattle.pc_exchange_law.specs.ExchangeLaws.{ExchangeStepsGoOn};
 ghost use Rattle.pc_exchange_law.specs.Knowing.{LoadsTellPasses};
 ghost use Rattle.pc_exchange_law.specs.Passes.{IsKnown, PassKnows};
-ghost use Rattle.pc_exchange_law.specs.Ties.{IsTied};
+ghost use Rattle.pc_exchange_law.specs.OwnSlots.{OwnsSlots};
+ghost use Rattle.pc_exchange_law.specs.Slots.{ChangesUsed};
+ghost use Rattle.pc_exchange_law.specs.Ties.{CellsAreSound, IsTied};
 ghost use Rattle.pc_exchange_law.specs.ViewNotes.{ViewNotesStay};
 ghost use Rattle.pc_exchange_law.specs.Worlds.{World};
 ghost use Rattle.pc_exchange_law.specs.TieLaws.{
   BoardTells,
   CodesAreInverse,
   OpeningsAreTied,
-  PlainValuesAreSound,
   RunIsShown,
+  RunLeavesSound,
   RunTells,
   StepsStayTied,
   SuccessesServe,
@@ -53,17 +54,17 @@ pub fn openings_are_tied()
 /// and every note that was true is true, and to which the board is tied afterwards.
 pub fn steps_stay_tied()
     ensures { (z : Size) (b : Board) (t : Past) (h : History) → z.seats ≤ 32 → Rule h → IsTied b t h
-        → StepsStayTied z b t h }
+        → ChangesUsed h → StepsStayTied z b t h }
 {}
 
 /// What a step owes in words of the board is what the protocol asks of it.
 pub fn words_serve()
-    ensures { (z : Size) (b : Board) (t : Past) (h : History) → z.seats ≤ 32 → Rule h → IsTied b t h → WordsServe z b t h }
+    ensures { (z : Size) (b : Board) (t : Past) (h : History) → z.seats ≤ 32 → Rule h → IsTied b t h → ChangesUsed h → WordsServe z b t h }
 {}
 
 /// A success changes the plain values of the words of its attempt, all of which held its reference, and no others.
 pub fn successes_serve()
-    ensures { (b : Board) (t : Past) (h : History) → Rule h → IsTied b t h → SuccessesServe b t h }
+    ensures { (b : Board) (t : Past) (h : History) → Rule h → IsTied b t h → ChangesUsed h → SuccessesServe b t h }
 {}
 
 /// What the clock, the words and the statuses of a tied board tell may be noted, and that an attempt is outdated in one of
@@ -72,16 +73,16 @@ pub fn board_tells()
     ensures { (b : Board) (t : Past) (h : History) → Rule h → IsTied b t h → BoardTells b t h }
 {}
 
-/// The run of a tied board is a list of exchanges by rising stamps, which stand one after another and leave the plain
-/// values. It has each attempt that took effect, at its stamp, and beside them only reads.
+/// The run of a tied board is a list of exchanges by rising stamps, which stand one after another and leave its
+/// cells: the plain values, but for those of spares. It has each attempt that took effect, at its stamp, and beside them only reads.
 pub fn run_tells()
     ensures { (b : Board) (t : Past) (h : History) → Rule h → IsTied b t h → RunTells b t h }
 {}
 
-/// Where each published exchange fits a shape, the plain values of a tied board are sound cells of it; and the words
-/// show the cells that the run leaves.
-pub fn plain_values_are_sound<H: Shape>()
-    ensures sound { PlainValuesAreSound H.form }
+/// Where each published exchange fits a shape, the cells that the run of a tied board leaves are sound in it; and the words
+/// show them, but for those of spares.
+pub fn run_leaves_sound_cells<H: Shape>()
+    ensures sound { RunLeavesSound H.form }
     ensures shown { (z : Size) (b : Board) (t : Past) (h : History) → Rule h → IsTied b t h → RunIsShown H.form z b t h }
 {}
 
@@ -124,9 +125,9 @@ pub fn loads_tell_passes()
 /// afterwards.
 pub fn exchange_steps_go_on<H: Shape>()
     ensures { (z : Size) (id : ℕ) (b : Board) (t : Past) (w : Scripts) (h : History) (late : ℕ → Bool) (v : View)
-        (k : PassKnows) → z.seats ≤ 32 → Shared (IsSound H.form) z b t → World H.form z b t w h late
+        (k : PassKnows) → z.seats ≤ 32 → Shared (CellsAreSound H.form) z b t → World H.form z b t w h late
         → Own z b.install t.course id v
-        → AllNotes (NoteHolds z b t) v.notes → IsKnown b t w h late id k
+        → AllNotes (NoteHolds z b t) v.notes → IsKnown b t w h late id k → OwnsSlots z h id k.own k.slots
         → ExchangeStepsGoOn H.form z id b t w h late v k }
 {}
 
@@ -134,9 +135,9 @@ pub fn exchange_steps_go_on<H: Shape>()
 /// knows.
 pub fn view_notes_stay<H: Shape>()
     ensures { (z : Size) (id : ℕ) (b : Board) (t : Past) (w : Scripts) (h : History) (late : ℕ → Bool) (v : View)
-        (k : PassKnows) → z.seats ≤ 32 → Shared (IsSound H.form) z b t → World H.form z b t w h late
+        (k : PassKnows) → z.seats ≤ 32 → Shared (CellsAreSound H.form) z b t → World H.form z b t w h late
         → Own z b.install t.course id v
-        → AllNotes (NoteHolds z b t) v.notes → IsKnown b t w h late id k
+        → AllNotes (NoteHolds z b t) v.notes → IsKnown b t w h late id k → OwnsSlots z h id k.own k.slots
         → ViewNotesStay H.form z id b t h v k }
 {}
 

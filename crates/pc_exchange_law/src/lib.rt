@@ -13,13 +13,13 @@ mod whole;
 pub use laws::{
     attempt_notes_stay, attempts_are_known, board_tells, calms_serve, clock_ends,
     codes_are_inverse, descriptors_are_scripts, exchange_steps_go_on, loads_tell_passes,
-    openings_are_tied, own_steps_are_known, plain_values_are_sound, run_tells, steps_keep_attempts,
+    openings_are_tied, own_steps_are_known, run_leaves_sound_cells, run_tells, steps_keep_attempts,
     steps_stay_tied, successes_serve, view_notes_stay, words_serve,
 };
 pub use whole::{
-    WholeCheck, WholeClear, WholeDecide, WholeDraw, WholeEndPath, WholeFirstVisit, WholeJoinPass,
-    WholeLaw, WholeLoadCell, WholeLoadClock, WholeLoadInstall, WholeLoadStatus, WholeLoadWord,
-    WholeLookFor, WholeMakePass, WholeOpenPath, WholePlace, WholePublish, WholeRead, WholeReadDraw,
-    WholeStoreInstall, WholeStoreWord, WholeTake, WholeTakeReference, WholeView, WholeVisit,
-    WholeWithdraw,
+    WholeCheck, WholeClear, WholeDecide, WholeDraw, WholeEndPath, WholeFill, WholeFirstVisit,
+    WholeJoinPass, WholeLaw, WholeLoadCell, WholeLoadClock, WholeLoadInstall, WholeLoadStatus,
+    WholeLoadWord, WholeLookFor, WholeMakePass, WholeOpenPath, WholePlace, WholePublish,
+    WholePublishFresh, WholeRead, WholeReadDraw, WholeStoreInstall, WholeStoreWord, WholeTake,
+    WholeTakeReference, WholeTakeSlot, WholeView, WholeVisit, WholeWithdraw,
 };

@@ -3,11 +3,11 @@
 ghost use Rattle.pc_exchange_law.specs.Wholes.{WholeHolds};
 ghost use Rattle.pc_exchange_law.specs.WholeSeats.{first_whole, whole_maker, whole_made, whole_joined, whole_spent};
 ghost use Rattle.pc_exchange_law.specs.WholeSteps.{whole_loads_clock, whole_loads_word, whole_loads_status, whole_loads_install};
-ghost use Rattle.pc_exchange_law.specs.WholeSteps.{whole_loads_cell, whole_stores_install, whole_stores_word, whole_publishes};
+ghost use Rattle.pc_exchange_law.specs.WholeSteps.{whole_loads_cell, whole_stores_install, whole_stores_word, whole_publishes, whole_publishes_fresh};
 ghost use Rattle.pc_exchange_law.specs.WholeSteps.{whole_clears, whole_draws, whole_decides, whole_withdraws, whole_places};
 ghost use Rattle.pc_exchange_law.specs.WholeSteps.{whole_takes, whole_takes_reference, whole_looks_for};
 ghost use Rattle.pc_exchange_law.specs.WholeSteps.{whole_reads, whole_visits, whole_visits_first, whole_draws_read, whole_checks};
-ghost use Rattle.pc_exchange_law.specs.WholeSteps.{whole_begins_path, whole_ends_path};
+ghost use Rattle.pc_exchange_law.specs.WholeSteps.{whole_begins_path, whole_ends_path, whole_takes_slot, whole_fills};
 ghost use Rattle.pc_rule_law.specs.Tables.{size_of};
 
 use atomic_table::{Join, Play, Split, TableRule};
@@ -98,6 +98,13 @@ pub struct WholePublish;
 
 impl Play<bool, WholeView> for WholePublish {
     ghost then = { whole_publishes };
+}
+
+/// The own next attempt is published, which makes the spare's node.
+pub struct WholePublishFresh;
+
+impl Play<bool, WholeView> for WholePublishFresh {
+    ghost then = { whole_publishes_fresh };
 }
 
 /// The own attempt is cleared.
@@ -203,6 +210,20 @@ pub struct WholeEndPath;
 
 impl Play<bool, WholeView> for WholeEndPath {
     ghost then = { whole_ends_path };
+}
+
+/// The next slot of the own share is taken as the spare.
+pub struct WholeTakeSlot;
+
+impl Play<bool, WholeView> for WholeTakeSlot {
+    ghost then = { whole_takes_slot };
+}
+
+/// A number is filled into a word of the own spare.
+pub struct WholeFill;
+
+impl Play<bool, WholeView> for WholeFill {
+    ghost then = { whole_fills };
 }
 
 /// The last pass makes another.

@@ -11,7 +11,7 @@ use Rattle.pc_rule_law.proofs.Lists.{all_one}
 use Rattle.pc_rule_law.proofs.Keeping.{noted_more}
 use Rattle.pc_rule_law.proofs.Steps.{Looks, looked}
 
-module _ (sound : ℕ → Cells → Type 0) (z : Size) where
+module _ (sound : ℕ → Cells → Cells → Type 0) (z : Size) where
   pub clock_looks : (id : ℕ) (v : View) → v.live ≡ true
       → Looks sound z id v at_clock (λ r w. SameSeat v w × LoadedClock v r w at_clock)
   clock_looks id v live b h views k at = let mine = k.each_view id v at in (

@@ -20,7 +20,7 @@ use Rattle.pc_rule_law.proofs.Descriptors.{described_now}
 use Rattle.pc_rule_law.proofs.InstallStores.{none_stands}
 use Rattle.pc_rule_law.proofs.Values.{plain_value, one_plain_value, install_is_present, exchange_is_present}
 
-module _ (sound : ℕ → Cells → Type 0) (z : Size) where
+module _ (sound : ℕ → Cells → Cells → Type 0) (z : Size) where
   -- no install of any pass stands
   pub nothing_stands : (b : Board) (h : Past) (views : List View) (id : ℕ) (v : View) → Kept sound z b h views
       → get_elem? views id ≡ some v → v.live ≡ true → v.last ≡ true → v.rest ≡ 0 → IsFree v
@@ -46,11 +46,12 @@ module _ (sound : ℕ → Cells → Type 0) (z : Size) where
   -- where no install stands any more, the words are those of a closed board, which is this one
   pub closed_by : (b : Board) (h : Past) (views : List View) (id : ℕ) (v : View) (ws : List ℕ) → Kept sound z b h views
       → get_elem? views id ≡ some v → v.live ≡ true → v.last ≡ true → v.rest ≡ 0 → IsFree v → Represents z ws b
-      → (c : IsClosed sound z ws) × (c.board ≡ b) × (c.cells ≡ h.cells)
+      → (c : IsClosed sound z ws) × (c.board ≡ b) × (c.cells ≡ h.cells) × (c.values ≡ h.plain)
   closed_by b h views id v ws kept at live last all free represents = let shared = kept.shared in (
     record {
       board = b;
       cells = h.cells;
+      values = h.plain;
       represents = represents;
       sound_cells = shared.sound_now;
       no_install = λ n f q k is. let st : Standing h.placing h.course (h.plain n f) n f q k = subst
@@ -60,10 +61,10 @@ module _ (sound : ℕ → Cells → Type 0) (z : Size) where
       ranges = shared.ranges;
       statuses = shared.statuses;
       referred = refers b h shared;
-      plain = λ n f. subst (IsPlainValue b n f (b.cell n f)) (shared.tied n f) (plain_value sound z b h shared n f);
-      one = λ n f x is. one_plain_value sound z b h shared n f x (h.plain n f) is (plain_value sound z b h shared n f)
-          ∙ shared.tied n f;
+      plain = plain_value sound z b h shared;
+      one = λ n f x is. one_plain_value sound z b h shared n f x (h.plain n f) is (plain_value sound z b h shared n f);
     },
+    refl,
     refl,
     refl,
   )

@@ -25,7 +25,7 @@ module _ (z : Size) (b : Board) (h : Past) (p place : ℕ) (lt : place < descrip
       subst (λ (r : ℕ). NoteHolds z b h (word_loaded r a place (b.word r place))) e ((g.0.0, λ _ _. refl), (g.1.0, lt)))
   word_learnt _ g = all_none (NoteHolds z b h)
 
-module _ (sound : ℕ → Cells → Type 0) (z : Size) where
+module _ (sound : ℕ → Cells → Cells → Type 0) (z : Size) where
   pub word_looks : (id : ℕ) (v : View) (p place : ℕ) → v.live ≡ true → Inside z (at_own p (own_word place))
       → Looks sound z id v (at_own p (own_word place)) (λ r w. SameSeat v w × DescriptorLoaded v p place r w)
   word_looks id v p place live in_p b h views k at = let mine = k.each_view id v at in let x : ℕ = b.word p place in

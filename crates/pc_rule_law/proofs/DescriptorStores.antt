@@ -28,7 +28,7 @@ word_stored slots b id words were place x j lt = dite (ℕ_discrete j place)
     (put2-here b.word id place x ∙ sym (put-here (word_in words) place x)))
     (λ ne. put2-else b.word id place id j x (λ _. ne) ∙ (were j lt ∙ sym (put-else (word_in words) place j x ne)))
 
-module _ (sound : ℕ → Cells → Type 0) (z : Size) (b : Board) (h : Past) (id : ℕ) (v : View) (s : Shared sound z b h)
+module _ (sound : ℕ → Cells → Cells → Type 0) (z : Size) (b : Board) (h : Past) (id : ℕ) (v : View) (s : Shared sound z b h)
     (own : Own z b.install h.course id v) (tries : OwnTries z.slots b id v.attempt) (known : h.posted ≡ false) (can : CanWrite v)
     (place x : ℕ) where
   abbrev word' : ℕ → ℕ → ℕ
@@ -82,7 +82,7 @@ module _ (sound : ℕ → Cells → Type 0) (z : Size) (b : Board) (h : Past) (i
     noted = all_none (NoteHolds z b' h);
   }
 
-module _ (sound : ℕ → Cells → Type 0) (z : Size) where
+module _ (sound : ℕ → Cells → Cells → Type 0) (z : Size) where
   pub word_owes : (id : ℕ) (v : View) (place x : ℕ) → v.live ≡ true → CanWrite v → Inside z (at_own v.seat (own_word place))
       → Owes sound z (StoresWord id place x) id v (at_own v.seat (own_word place)) (λ _. x)
       (λ _ w. SameSeat v w × Wrote v x w (at_own v.seat (own_word place)))

@@ -63,7 +63,7 @@ described_alike slots a word word' formed d same = record {
   );
 }
 
-module _ (sound : ℕ → Cells → Type 0) (z : Size) (b : Board) (h : Past) (s : Shared sound z b h) where
+module _ (sound : ℕ → Cells → Cells → Type 0) (z : Size) (b : Board) (h : Past) (s : Shared sound z b h) where
   -- while an attempt isn't cleared, its words stand in its pass's descriptor
   pub described_now : (p : ℕ) → (IsIdle (b.status p).stage → ⊥) → Describes z.slots (h.attempt p (b.status p).number) (b.word p)
   described_now p busy = described_alike z.slots (h.attempt p (b.status p).number) (h.words p (b.status p).number) (b.word p)

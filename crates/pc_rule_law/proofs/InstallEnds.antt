@@ -31,7 +31,7 @@ pub record Known (z : Size) (b : Board) (h : Past) (q k n : ℕ) (f : Field) (c 
   pub becomes : ((c ≡ Exchange p a) × ((h.placing q k).early ≡ true))
       ⊎ ((c ≡ Plain (h.placing q k).old) × DecidedBelow b.status p (a + 1))
 
-module _ (sound : ℕ → Cells → Type 0) (z : Size) (b : Board) (h : Past) (few : z.seats ≤ 32)
+module _ (sound : ℕ → Cells → Cells → Type 0) (z : Size) (b : Board) (h : Past) (few : z.seats ≤ 32)
     (s : Shared sound z b h) where
   -- from the words of its descriptor
   pub named_in : (q k n : ℕ) (f : Field) (p a : ℕ) → NoteHolds z b h (install_word q k 1 (raw (Exchange p a)))

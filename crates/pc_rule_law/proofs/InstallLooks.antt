@@ -21,7 +21,7 @@ not_both : (c : Bool) → not c ≡ true → c ≡ true → ⊥
 not_both true e d = absurd (cc)
 not_both false e d = absurd (cc)
 
-module _ (sound : ℕ → Cells → Type 0) (z : Size) where
+module _ (sound : ℕ → Cells → Cells → Type 0) (z : Size) where
   -- the numbers of the words of an install that was placed are those of the board
   placing_in_range : (b : Board) (h : Past) (c q k : ℕ) (x : Placing)
       → Placed z b.status b.cell b.install h.attempt c q k x → (j : ℕ) → j < 4

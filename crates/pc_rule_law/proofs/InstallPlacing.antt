@@ -36,7 +36,7 @@ early_or_late : (status : ℕ → Status) (p a : ℕ) → a ≤ (status p).numbe
 early_or_late status p a le = ⊎_elim (λ u. (true, (λ _. u), λ no. absurd (cc)))
     (λ d. (false, (λ no. absurd (cc)), λ _. d)) (undecided_or_decided status p a le)
 
-module _ (sound : ℕ → Cells → Type 0) (z : Size) (b : Board) (h : Past) (id : ℕ) (v : View) (n : ℕ) (f : Field)
+module _ (sound : ℕ → Cells → Cells → Type 0) (z : Size) (b : Board) (h : Past) (id : ℕ) (v : View) (n : ℕ) (f : Field)
     (x p a : ℕ) where
   abbrev k : ℕ
   k = v.install.number
@@ -192,9 +192,9 @@ module _ (sound : ℕ → Cells → Type 0) (z : Size) (b : Board) (h : Past) (i
       unplaced = λ no. absurd (cc);
     }
 
-module _ (sound : ℕ → Cells → Type 0) (z : Size) where
+module _ (sound : ℕ → Cells → Cells → Type 0) (z : Size) where
   -- no install of the pass stands while its number is fresh
-  not_own : (sound : ℕ → Cells → Type 0) (z : Size) (b : Board) (h : Past) (id : ℕ) (v : View) (n : ℕ)
+  not_own : (sound : ℕ → Cells → Cells → Type 0) (z : Size) (b : Board) (h : Past) (id : ℕ) (v : View) (n : ℕ)
       (f : Field) → Shared sound z b h → Own z b.install h.course id v → v.fresh ≡ true → (q j : ℕ)
       → b.cell n f ≡ Install q j → q ≡ id → ⊥
   not_own sound z b h id v n f s own fresh q j is e = let st : Standing h.placing h.course

@@ -44,7 +44,7 @@ word_else d (suc (suc (suc i))) x (suc zero) a b ne = refl
 word_else d (suc (suc (suc i))) x (suc (suc zero)) a b ne = refl
 word_else d (suc (suc (suc i))) x (suc (suc (suc j))) a b ne = absurd (ne (omega arith))
 
-module _ (sound : ℕ → Cells → Type 0) (z : Size) (b : Board) (h : Past) (id : ℕ) (v : View) (s : Shared sound z b h)
+module _ (sound : ℕ → Cells → Cells → Type 0) (z : Size) (b : Board) (h : Past) (id : ℕ) (v : View) (s : Shared sound z b h)
     (own : Own z b.install h.course id v) (noted : AllNotes (NoteHolds z b h) v.notes) where
   -- a pass that is free has no install that stands
   pub none_stands : IsFree v → (j : ℕ) → h.course id j ≢ 1
@@ -174,7 +174,7 @@ module _ (sound : ℕ → Cells → Type 0) (z : Size) (b : Board) (h : Past) (i
       noted = all_none (NoteHolds z b' h);
     }
 
-module _ (sound : ℕ → Cells → Type 0) (z : Size) where
+module _ (sound : ℕ → Cells → Cells → Type 0) (z : Size) where
   pub store_owes : (id : ℕ) (v : View) (place x : ℕ) → v.live ≡ true → CanStore v place x
       → Inside z (at_own v.seat (own_install place))
       → Owes sound z (StoresInstall id place x) id v (at_own v.seat (own_install place)) (λ _. x)

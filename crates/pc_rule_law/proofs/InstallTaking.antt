@@ -30,9 +30,9 @@ not_both : (c : Bool) → not c ≡ true → c ≡ true → ⊥
 not_both true e d = absurd (cc)
 not_both false e d = absurd (cc)
 
-module _ (sound : ℕ → Cells → Type 0) (z : Size) where
+module _ (sound : ℕ → Cells → Cells → Type 0) (z : Size) where
   -- what is known of an install, from the notes that its taking asks for
-  known_of : (b : Board) (h : Past) (v : View) (q k n : ℕ) (f : Field) (c : WordKind) → z.seats ≤ 32
+  pub known_of : (b : Board) (h : Past) (v : View) (q k n : ℕ) (f : Field) (c : WordKind) → z.seats ≤ 32
       → Shared sound z b h → AllNotes (NoteHolds z b h) v.notes → MayTake z v q k n f c
       → (p : ℕ) × (a : ℕ) × Known z b h q k n f c p a × Has v.notes (install_word q k 1 (raw (Exchange p a)))
       × IsInstall z q k

@@ -110,7 +110,7 @@ tries_stay slots b b' j own l t = record {
 pub tries_alone : (b : Board) (j : ℕ) → LeavesTries b b j
 tries_alone b j = record { number = refl; idle = λ i. i; busy = λ i. i; words = λ place. refl }
 
-module _ (sound : ℕ → Cells → Type 0) (z : Size) where
+module _ (sound : ℕ → Cells → Cells → Type 0) (z : Size) where
   -- what a step of the seat id shows, whose view goes from v to w with these notes more
   pub record Moves (b : Board) (h : Past) (id : ℕ) (v : View) (b' : Board) (h' : Past) (w : View)
       (more : List Note) : Type 0 where

@@ -20,7 +20,7 @@ use Rattle.pc_rule_law.proofs.Lists.{all_one}
 use Rattle.pc_rule_law.proofs.Keeping.{noted_more}
 use Rattle.pc_rule_law.proofs.Steps.{Looks, looked}
 
-module _ (sound : ℕ → Cells → Type 0) (z : Size) (b : Board) (h : Past) (s : Shared sound z b h) where
+module _ (sound : ℕ → Cells → Cells → Type 0) (z : Size) (b : Board) (h : Past) (s : Shared sound z b h) where
   -- an install that stands is one of those that were placed
   pub placed_here : (n : ℕ) (f : Field) (q k : ℕ) → Standing h.placing h.course (h.plain n f) n f q k
       → Placed z b.status b.cell b.install h.attempt (h.course q k) q k (h.placing q k)
@@ -76,13 +76,13 @@ module _ (sound : ℕ → Cells → Type 0) (z : Size) (b : Board) (h : Past) (s
 pub told_kind : (w : WordKind) → InRange w → (r : ℕ) → r ≡ raw w → kind r ≡ w
 told_kind w small r is = ap kind is ∙ kind_raw w small
 
-module _ (sound : ℕ → Cells → Type 0) (z : Size) where
+module _ (sound : ℕ → Cells → Cells → Type 0) (z : Size) where
   -- a plain word has the value that the board opened with, where sound cells are those of the opening
   pub plain_at_opening : KeepsOpening sound z → (b : Board) (h : Past) → Shared sound z b h → (v : View) → v.size ≡ z → (n : ℕ) (f : Field) (r : ℕ)
       → r ≡ raw (b.cell n f) → IsOpeningWord v n f r
   plain_at_opening keeps b h s v sized n f r at x e = let is : b.cell n f ≡ Plain x = sym (told_kind (b.cell n f) (s.ranges n f) r at) ∙ e in
       subst (CellOk z.seats b.status h.attempt h.placing h.course (h.plain n f) n f) is (s.each_cell n f)
-      ∙ (s.tied n f ∙ (keeps h.cells s.sound_now n f ∙ ap (λ (y : Size). opening_cells y.starts.version n f) (sym sized)))
+      ∙ (keeps h.cells h.plain s.sound_now n f ∙ ap (λ (y : Size). opening_cells y.starts.version n f) (sym sized))
 
   -- of a word of a node is told what stands in it
   pub cell_looks : (id : ℕ) (v : View) (n : ℕ) (f : Field) → v.live ≡ true → Inside z (at_cell n f)

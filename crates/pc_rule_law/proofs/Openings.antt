@@ -131,8 +131,8 @@ no_words (suc zero) = refl
 no_words (suc (suc zero)) = refl
 no_words (suc (suc (suc place))) = refl
 
-module _ (sound : ℕ → Cells → Type 0) (z : Size) (cells : Cells) (given : Bool) (posted : List Posted)
-    (may : MayOpen sound z cells given posted) where
+module _ (sound : ℕ → Cells → Cells → Type 0) (z : Size) (cells : Cells) (given : Bool) (posted : List Posted)
+    (may : MayOpen (λ slots c. sound slots c c) z cells given posted) where
   noted_at : (p : ℕ) (x : Changed) → p < length posted → Has (opening_changes posted p) x
       → NoteHolds z (opening_board z cells posted) (opening_past cells (opening_attempt posted) (opening_words posted) given) (entry p 1 x)
   noted_at p x lt has = let number :

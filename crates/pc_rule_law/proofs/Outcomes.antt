@@ -22,7 +22,7 @@ use Rattle.pc_rule_law.proofs.WordKinds.{plain_not_exchange, install_not_exchang
 use Rattle.pc_rule_law.proofs.StatusMoves.{StatusMoves}
 use Rattle.pc_rule_law.proofs.WordMoves.{WordMoves}
 
-module _ (sound : ℕ → Cells → Type 0) (z : Size) (b : Board) (h : Past) (s : Shared sound z b h) (id p : ℕ) where
+module _ (sound : ℕ → Cells → Cells → Type 0) (z : Size) (b : Board) (h : Past) (s : Shared sound z b h) (id p : ℕ) where
   abbrev a : ℕ
   a = (b.status p).number
 
@@ -52,7 +52,6 @@ module _ (sound : ℕ → Cells → Type 0) (z : Size) (b : Board) (h : Past) (s
     words = λ n f old new _ busy. absurd (busy idle);
     installs = λ q k _ _ _ _ unmade. absurd (unmade_not_idle (b.status p).stage unmade idle);
     sound_now = s.sound_now;
-    tied = s.tied;
   }
     where
       described_then : (q c : ℕ) → Describes z.slots (put2 h.attempt p (a + 1) e q c) (put2 h.words p (a + 1) (b.word p) q c)
@@ -85,7 +84,6 @@ module _ (sound : ℕ → Cells → Type 0) (z : Size) (b : Board) (h : Past) (s
     );
     installs = λ q k _ _ _ _ _. (refl, unmade);
     sound_now = s.sound_now;
-    tied = s.tied;
   }
 
   -- where every word of an attempt holds its reference, no install of it stands
@@ -104,10 +102,9 @@ module _ (sound : ℕ → Cells → Type 0) (z : Size) (b : Board) (h : Past) (s
       → ((x : Changed) → Has (h.attempt p a).changes x → b.cell x.node x.field ≡ Exchange p a)
       → ((x : Changed) → Has (h.attempt p a).changes x → plain' x.node x.field ≡ x.new)
       → ((n : ℕ) (f : Field) → b.cell n f ≢ Exchange p a → plain' n f ≡ h.plain n f)
-      → ((n : ℕ) → h.plain n Version ≤ plain' n Version) → sound z.slots cells'
-      → ((n : ℕ) (f : Field) → plain' n f ≡ cells' n f)
+      → ((n : ℕ) → h.plain n Version ≤ plain' n Version) → sound z.slots cells' plain'
       → StatusMoves sound z b h id p (at_number a (Succeeded stamp)) cells' plain' h.attempt h.words
-  succeeds stamp cells' plain' small pending held gets stays rises sound_now tied = record {
+  succeeds stamp cells' plain' small pending held gets stays rises sound_now = record {
     in_range = ((s.statuses p).0, small);
     number = omega arith;
     once = λ _ o. absurd o;
@@ -123,7 +120,6 @@ module _ (sound : ℕ → Cells → Type 0) (z : Size) (b : Board) (h : Past) (s
     words = λ n f old new _ _ has _. (refl, (λ idle. idle), sym (gets (change n f old new) has));
     installs = λ q k stands _ seat number _. absurd (none_where_held held q k stands seat number);
     sound_now = sound_now;
-    tied = tied;
   }
 
   -- a decided attempt all of whose words are clean is cleared
@@ -153,7 +149,6 @@ module _ (sound : ℕ → Cells → Type 0) (z : Size) (b : Board) (h : Past) (s
         (λ j. (seat j, number j)) l.1) in
         subst (IsClean h.placing p a) (y.there stands) here seat number early);
     sound_now = s.sound_now;
-    tied = s.tied;
   }
 
   -- the reference of a decided attempt leaves a word, whose plain value stays

@@ -26,7 +26,7 @@ use Rattle.pc_rule_law.proofs.Steps.{Publishes, Owes, allowed}
 abbrev pub next_status : View → Status
 next_status v = record { number = v.attempt.number + 1; stage = Undecided }
 
-module _ (sound : ℕ → Cells → Type 0) (z : Size) where
+module _ (sound : ℕ → Cells → Cells → Type 0) (z : Size) where
   pub publish_owes : (id : ℕ) (v : View) (e : Attempt) → v.size ≡ z → v.live ≡ true → CanPublish v e
       → Inside z (at_own v.seat own_status)
       → Owes sound z (Publishes id e) id v (at_own v.seat own_status) (λ _. packed (next_status v))

@@ -65,7 +65,7 @@ pub record Refers (z : Size) (ws : List ℕ) (n : ℕ) (f : Field) (p a : ℕ) :
   pub few : (board_in z ws).word p 1 ≤ 25 + z.slots
   pub listed : ((i : ℕ) → i < (board_in z ws).word p 1 → (board_in z ws).word p (3 + 3 * i) ≢ place_number n f) → ⊥
 
-module _ (sound : ℕ → Cells → Type 0) (z : Size) (ws : List ℕ) (c : IsClosed sound z ws) (n : ℕ) (f : Field)
+module _ (sound : ℕ → Cells → Cells → Type 0) (z : Size) (ws : List ℕ) (c : IsClosed sound z ws) (n : ℕ) (f : Field)
     (node : IsNode z.slots n) where
   same_cell : (board_in z ws).cell n f ≡ c.board.cell n f
   same_cell = cell_back z ws c.board c.represents n f node (c.ranges n f)
@@ -107,20 +107,20 @@ module _ (sound : ℕ → Cells → Type 0) (z : Size) (ws : List ℕ) (c : IsCl
       (subst (λ (w : WordKind). IsPlainValue (board_in z ws) n f w v) same_cell t)
 
   -- the words that are left say the cells of the closed board
-  pub left_has : HasPlainValue (board_in z ws) n f (c.cells n f)
+  pub left_has : HasPlainValue (board_in z ws) n f (c.values n f)
   left_has = record {
-    says = value_left (c.cells n f) (c.plain n f);
+    says = value_left (c.values n f) (c.plain n f);
     no_other = λ x t. c.one n f x (value_back x t);
   }
 
-  listed : (p a : ℕ) → IsPlainValue (board_in z ws) n f (Exchange p a) (c.cells n f)
+  listed : (p a : ℕ) → IsPlainValue (board_in z ws) n f (Exchange p a) (c.values n f)
       → ((i : ℕ) → i < (board_in z ws).word p 1 → (board_in z ws).word p (3 + 3 * i) ≢ place_number n f) → ⊥
   listed p a t none' = none' t.1 t.2 t.3
 
   pub refers : (p a : ℕ) → (board_in z ws).cell n f ≡ Exchange p a → Refers z ws n f p a
   refers p a is = let at : c.board.cell n f ≡ Exchange p a = sym same_cell ∙ is in
-      let t : IsPlainValue (board_in z ws) n f (Exchange p a) (c.cells n f) = subst
-      (λ (w : WordKind). IsPlainValue (board_in z ws) n f w (c.cells n f)) is left_has.says in record {
+      let t : IsPlainValue (board_in z ws) n f (Exchange p a) (c.values n f) = subst
+      (λ (w : WordKind). IsPlainValue (board_in z ws) n f w (c.values n f)) is left_has.says in record {
         owner = (c.referred n f p a at).0;
         present = t.0;
         few = (pass_back p a at).few;

@@ -26,7 +26,7 @@ use Rattle.pc_rule_law.proofs.InstallStores.{none_stands}
 true_not_false : true ≡ false → ⊥
 true_not_false e = absurd (cc)
 
-module _ (sound : ℕ → Cells → Type 0) (z : Size) where
+module _ (sound : ℕ → Cells → Cells → Type 0) (z : Size) where
   -- the last pass, which has taken none in, makes another
   pub split_kept : (b : Board) (h : Past) (views : List View) (id : ℕ) (v : View) → v.live ≡ true → v.last ≡ true
       → v.seat + 1 < z.seats → Kept sound z b h views → get_elem? views id ≡ some v
@@ -68,7 +68,7 @@ module _ (sound : ℕ → Cells → Type 0) (z : Size) where
         blank = λ j le lt. let old = k.blank j (omega arith) lt in
             record { words = old.words; unplaced = old.unplaced; alive = old.alive };
         untried = λ j le lt no. k.untried j (omega arith) lt no;
-        shared = let s' = k.shared in record { sound_now = s'.sound_now; tied = s'.tied; ranges = s'.ranges; statuses = s'.statuses; formed = s'.formed; described = s'.described; written = s'.written; each_cell = s'.each_cell; installs = s'.installs };
+        shared = let s' = k.shared in record { sound_now = s'.sound_now; ranges = s'.ranges; statuses = s'.statuses; formed = s'.formed; described = s'.described; written = s'.written; each_cell = s'.each_cell; installs = s'.installs };
         each_view = each_snoc (set views id (maker v)) made (Known z b h') changed
             (subst (λ (i : ℕ). Known z b h' i made) (sym len) record {
               own = λ _. record {
@@ -163,7 +163,7 @@ module _ (sound : ℕ → Cells → Type 0) (z : Size) where
               (below_length views other w there) in absurd (omega arith)) ∙ old.alive;
         };
         untried = k.untried;
-        shared = let s' = k.shared in record { sound_now = s'.sound_now; tied = s'.tied; ranges = s'.ranges; statuses = s'.statuses; formed = s'.formed; described = s'.described; written = s'.written; each_cell = s'.each_cell; installs = s'.installs };
+        shared = let s' = k.shared in record { sound_now = s'.sound_now; ranges = s'.ranges; statuses = s'.statuses; formed = s'.formed; described = s'.described; written = s'.written; each_cell = s'.each_cell; installs = s'.installs };
         each_view = each_moved (set views id u) other spent_view (λ j x. j ≢ other → Known z b h' j x)
             (Known z b h') first
             record {
@@ -194,7 +194,7 @@ module _ (sound : ℕ → Cells → Type 0) (z : Size) where
       (notes : List Note) : Type 0 where
     pub few : z.seats ≤ 32
     pub seat : 0 < z.seats
-    pub sound_now : sound z.slots cells
+    pub sound_now : sound z.slots cells cells
     pub plain : (n : ℕ) (f : Field) → b.cell n f ≡ Plain (cells n f)
     pub small : (n : ℕ) (f : Field) → InRange (Plain (cells n f))
     pub install : (j place : ℕ) → place < 4 → b.install j place ≡ own_install_word (opening_install z) place
@@ -217,7 +217,6 @@ module _ (sound : ℕ → Cells → Type 0) (z : Size) where
     untried = λ j _ _. o.untried j;
     shared = record {
       sound_now = o.sound_now;
-      tied = λ n f. refl;
       ranges = λ n f. subst InRange (sym (o.plain n f)) (o.small n f);
       statuses = o.statuses;
       formed = o.formed;

@@ -157,7 +157,7 @@ bool_cases : (P : Type 0) (c : Bool) → (c ≡ true → P) → (c ≡ false →
 bool_cases P true t f = t refl
 bool_cases P false t f = f refl
 
-module _ (sound : ℕ → Cells → Type 0) (z : Size) (b : Board) (h : Past) (few : z.seats ≤ 32)
+module _ (sound : ℕ → Cells → Cells → Type 0) (z : Size) (b : Board) (h : Past) (few : z.seats ≤ 32)
     (s : Shared sound z b h) where
   -- the exchange of an install that was placed, from its word
   named : (q k p a : ℕ) → 1 ≤ h.course q k → p < z.seats → placing_word (h.placing q k) k 1 ≡ raw (Exchange p a)
@@ -342,7 +342,7 @@ module _ (sound : ℕ → Cells → Type 0) (z : Size) (b : Board) (h : Past) (f
             × (v.attempt.published ≡ true → IsIdle (b.status q).stage → ⊥)) (sym self) (t.number, t.resting, t.running);
       }
 
-module _ (sound : ℕ → Cells → Type 0) (z : Size) where
+module _ (sound : ℕ → Cells → Cells → Type 0) (z : Size) where
   pub status_looks : (id : ℕ) (v : View) (p : ℕ) → v.live ≡ true → Inside z (at_own p own_status)
       → Looks sound z id v (at_own p own_status) (λ r w. SameSeat v w × LoadedStatus v r w (at_own p own_status))
   status_looks id v p live in_p b h views k at =

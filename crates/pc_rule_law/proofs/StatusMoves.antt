@@ -26,7 +26,7 @@ with_status b p t = record b { status = put b.status p t }
 abbrev pub with_values : Past → Cells → Cells → (ℕ → ℕ → Attempt) → (ℕ → ℕ → ℕ → ℕ) → Past
 with_values h cells' plain' attempt' words' = record h { cells = cells'; plain = plain'; attempt = attempt'; words = words' }
 
-module _ (sound : ℕ → Cells → Type 0) (z : Size) (b : Board) (h : Past) (id p : ℕ) (t : Status)
+module _ (sound : ℕ → Cells → Cells → Type 0) (z : Size) (b : Board) (h : Past) (id p : ℕ) (t : Status)
     (cells' plain' : Cells) (attempt' : ℕ → ℕ → Attempt) (words' : ℕ → ℕ → ℕ → ℕ) where
   pub record StatusMoves : Type 0 where
     pub in_range : StatusInRange t
@@ -53,8 +53,7 @@ module _ (sound : ℕ → Cells → Type 0) (z : Size) (b : Board) (h : Past) (i
     pub installs : (q k : ℕ) → h.course q k ≡ 1 → (h.placing q k).early ≡ true → (h.placing q k).seat ≡ p
         → (h.placing q k).number ≡ (b.status p).number → IsUnmade (b.status p).stage
         → (t.number ≡ (b.status p).number) × IsUnmade t.stage
-    pub sound_now : sound z.slots cells'
-    pub tied : (n : ℕ) (f : Field) → plain' n f ≡ cells' n f
+    pub sound_now : sound z.slots cells' plain'
 
   abbrev b' : Board
   b' = with_status b p t
@@ -180,8 +179,8 @@ module _ (sound : ℕ → Cells → Type 0) (z : Size) (b : Board) (h : Past) (i
         let each_cell : (n : ℕ) (f : Field)
         → CellOk z.seats b'.status attempt' h.placing h.course (plain' n f) n f
         (b.cell n f) = λ n f. cell_still n f (b.cell n f) refl (s.each_cell n f) in
-        let formed = m.formed in let sound_now = m.sound_now in let tied = m.tied in
-        assumption (statuses, described, written, each_cell, placed_still, formed, sound_now, tied, s)
+        let formed = m.formed in let sound_now = m.sound_now in
+        assumption (statuses, described, written, each_cell, placed_still, formed, sound_now, s)
 
     pub status_grows : Grows b h b' h'
     status_grows = record {

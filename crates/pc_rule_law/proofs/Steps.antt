@@ -50,7 +50,7 @@ pub told : (z : Size) (v : View) (p : Place) (T : Place → Type 0) → v.size �
 told z v p T is in_p t q in_q same = subst T
     (one_place z p q in_p (subst (λ (y : Size). Inside y q) is in_q) (same ∙ ap (λ (y : Size). address y q) is)) t
 
-module _ (sound : ℕ → Cells → Type 0) (z : Size) where
+module _ (sound : ℕ → Cells → Cells → Type 0) (z : Size) where
   module _ (event : Board → Past → Board → Past → Type 0) where
     -- after a step on the place p, which shows x then: the view that the seat has, the board and the past
     pub record Goes (b : Board) (h : Past) (views : List View) (id : ℕ) (p : Place) (x : ℕ)

@@ -14,7 +14,7 @@ use Rattle.pc_rule_law.proofs.Descriptors.{described_now}
 use Rattle.pc_rule_law.proofs.Lists.{below_length, element_at}
 use Rattle.pc_rule_law.proofs.Places.{one_word}
 
-module _ (sound : ℕ → Cells → Type 0) (z : Size) (b : Board) (h : Past) (s : Shared sound z b h) where
+module _ (sound : ℕ → Cells → Cells → Type 0) (z : Size) (b : Board) (h : Past) (s : Shared sound z b h) where
   of_install : (n : ℕ) (f : Field) (q k : ℕ) → Standing h.placing h.course (h.plain n f) n f q k
       → IsPlainValue b n f (Install q k) (h.plain n f)
   of_install n f q k st = let y = s.installs q k (let e : h.course q k ≡ 1 = st.stands in omega arith) in

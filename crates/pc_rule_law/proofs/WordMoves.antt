@@ -61,7 +61,7 @@ module _ (z : Size) (b : Board) (h : Past) (id n : ℕ) (f : Field) (c : WordKin
   abbrev h' : Past
   h' = with_installs h placing' course'
 
-  module _ (sound : ℕ → Cells → Type 0) (s : Shared sound z b h) (w : WordMoves) where
+  module _ (sound : ℕ → Cells → Cells → Type 0) (s : Shared sound z b h) (w : WordMoves) where
     -- an install that stands in another word stays there
     elsewhere : (q k m : ℕ) (g : Field) → (m ≡ n → g ≢ f) → Standing h.placing h.course (h.plain m g) m g q k
         → IsKept q k

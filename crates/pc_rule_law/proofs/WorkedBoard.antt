@@ -18,10 +18,10 @@ use Rattle.pc_rule_law.specs.Views.{entry}
 use Rattle.pc_rule_law.proofs.Lists.{all_one, none_has}
 
 abbrev four : Size
-four = record { seats = 4; slots = 4; starts = record { attempt = 0; install = 0; stamp = 1; epoch = 1; version = 0 } }
+four = record { seats = 4; slots = 4; shares = []; starts = record { attempt = 0; install = 0; stamp = 1; epoch = 1; version = 0 } }
 
 abbrev largest : Size
-largest = record { seats = 32; slots = 61000; starts = record { attempt = 0; install = 0; stamp = 1; epoch = 1; version = 0 } }
+largest = record { seats = 32; slots = 61000; shares = []; starts = record { attempt = 0; install = 0; stamp = 1; epoch = 1; version = 0 } }
 
 -- the version of the sentinel is the first word of its node, and a key the second of its own
 sentinel_at : address four (at_cell 1 Version) ≡ 8

@@ -1,7 +1,7 @@
 -- What the words of a closed board say, on worked cases: a board of one pass without slots, whose 112 words are zeros but
 -- for these. The sentinel has its key; its value is a reference to the pass's attempt 1; and the descriptor has two changes,
 -- the second of the sentinel's value, from 20 to 50.
-use Rattle.std.proofs.Common.{◌≡◌, ℕ, List, replicate, slice_set, refl, arith}
+use Rattle.std.proofs.Common.{◌≡◌, ℕ, List, [], replicate, slice_set, refl, arith}
 use Rattle.pc_model.specs.declared.cell.Field.TheVariants.{Key, Value, Left}
 use Rattle.pc_words.specs.declared.word.WordKind.TheVariants.{Exchange}
 use Rattle.pc_words.specs.declared.status.Stage.TheVariants.{Succeeded, Withdrawn}
@@ -9,7 +9,7 @@ use Rattle.pc_rule_law.specs.Board.{Size, words_of, board_in}
 use Rattle.pc_rule_law.specs.Values.{IsPlainValue}
 
 abbrev one : Size
-one = record { seats = 1; slots = 0; starts = record { attempt = 0; install = 0; stamp = 1; epoch = 1; version = 0 } }
+one = record { seats = 1; slots = 0; shares = []; starts = record { attempt = 0; install = 0; stamp = 1; epoch = 1; version = 0 } }
 
 words_of_one : words_of one ≡ 112
 words_of_one = refl

@@ -1,7 +1,7 @@
 -- The board as plain data: where each of its words lies, and which number it shows. One relation, `Represents`, says
 -- that the words of the table are those of a board, and `board_in` reads them back; no other definition sees bits or
 -- addresses.
-use Rattle.std.specs.Prelude.{◌≡◌, ◌≢◌, ℕ, ◌+◌, ◌*◌, ◌/◌, ◌<◌, ◌==◌, ◌&&◌, if◌then◌else◌, List, length, slice_index}
+use Rattle.std.specs.Prelude.{◌≡◌, ◌≢◌, ℕ, ◌+◌, ◌*◌, ◌/◌, ◌<◌, ◌==◌, ◌&&◌, if◌then◌else◌, zero, suc, List, [], ◌∷◌, length, slice_index}
 use Rattle.pc_model.specs.declared.cell.Field.{Field}
 use Rattle.pc_model.specs.Cells.{field_number, IsNode}
 use Rattle.pc_words.specs.declared.word.WordKind.{WordKind}
@@ -17,11 +17,23 @@ pub record Starts : Type 0 where
   pub epoch : ℕ
   pub version : ℕ
 
--- how many passes there may be, how many slots beside the sentinel, and what the counters open at
+-- how many passes there may be, how many slots beside the sentinel, how many of these each pass has, by seats, and what
+-- the counters open at
 pub record Size : Type 0 where
   pub seats : ℕ
   pub slots : ℕ
+  pub shares : List ℕ
   pub starts : Starts
+
+-- how many slots the passes of lower seats have, by how many each has; the first slot of a pass, whose slots go on up to the
+-- first one of the next
+abbrev pub slots_below : List ℕ → ℕ → ℕ
+slots_below [] j = 0
+slots_below (x ∷ shares) zero = 0
+slots_below (x ∷ shares) (suc j) = x + slots_below shares j
+
+abbrev pub start_of : Size → ℕ → ℕ
+start_of z j = 2 + slots_below z.shares j
 
 -- the words of one pass: its status; the epoch that it announces; its install's number, exchange, place and old
 -- value; and its descriptor

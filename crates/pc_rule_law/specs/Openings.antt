@@ -1,6 +1,6 @@
 -- The board that passes find when it opens. For the time being each pass may be given one exchange then; once passes
 -- publish exchanges of their own, what is given here goes.
-use Rattle.std.specs.Prelude.{◌≡◌, ℕ, zero, suc, ◌<◌, ◌≤◌, Bool, true, false, List, [], ◌∷◌, ◌++◌, length}
+use Rattle.std.specs.Prelude.{◌≡◌, ℕ, zero, suc, ◌<◌, ◌≤◌, Bool, true, false, List, [], ◌∷◌, ◌++◌, length, None}
 use Rattle.pc_model.specs.declared.cell.Field.{Field}
 use Rattle.pc_model.specs.Cells.{Cells}
 use Rattle.pc_model.specs.Exchanges.{Changed}
@@ -35,7 +35,7 @@ opening_changes (x ∷ xs) zero = x.places
 opening_changes (x ∷ xs) (suc p) = opening_changes xs p
 
 abbrev pub attempt_of : List Changed → Attempt
-attempt_of changes = record { mode = 0; changes = changes; visits = []; reads = [] }
+attempt_of changes = record { mode = 0; changes = changes; visits = []; reads = []; fresh = None }
 
 abbrev pub opening_attempt : List Posted → ℕ → ℕ → Attempt
 opening_attempt posted p zero = attempt_of []

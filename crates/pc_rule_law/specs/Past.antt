@@ -1,12 +1,12 @@
 -- What the rule remembers besides the words: what no word shows, and what words showed before. The rule says that
 -- such a past exists; the proof of a step chooses the next one, so anything may be remembered, whoever makes the
 -- step.
-use Rattle.std.specs.Prelude.{◌≡◌, ℕ, zero, suc, ◌+◌, ◌*◌, ◌^◌, ◌<◌, ◌≤◌, Bool, List, [], length}
+use Rattle.std.specs.Prelude.{◌≡◌, ℕ, zero, suc, ◌+◌, ◌*◌, ◌^◌, ◌<◌, ◌≤◌, Bool, List, [], length, Option}
 use mathlib.Core.Option.{some}
 use lib.ListN.{get_elem?}
 use Rattle.pc_model.specs.declared.cell.Field.{Field}
 use Rattle.pc_model.specs.Cells.{Cells, IsNode}
-use Rattle.pc_model.specs.Exchanges.{Changed, Visited, Seen}
+use Rattle.pc_model.specs.Exchanges.{Changed, Visited, Seen, FreshNode}
 use Rattle.pc_words.specs.declared.word.WordKind.TheVariants.{Exchange}
 use Rattle.pc_words.specs.Words.{raw}
 use Rattle.pc_rule_law.specs.Board.{place_number}
@@ -16,12 +16,13 @@ abbrev pub Has : {X : Type 0} → List X → X → Type 0
 Has xs x = (k : ℕ) × (get_elem? xs k ≡ some x)
 
 -- what an attempt of a pass is to do: how it checks its path, which words it changes, which nodes it visited, and which words
--- of them it read, of which no word of a descriptor speaks
+-- of them it read, and the node that it makes, of which no word of a descriptor speaks
 pub record Attempt : Type 0 where
   pub mode : ℕ
   pub changes : List Changed
   pub visits : List Visited
   pub reads : List Seen
+  pub fresh : Option FreshNode
 
 -- the change of a word from one number to another
 abbrev pub change : ℕ → Field → ℕ → ℕ → Changed

@@ -114,12 +114,12 @@ pub record Known (z : Size) (b : Board) (h : Past) (j : ℕ) (v : View) : Type 0
   pub counted : Counted h.course h.count h.live j v
   pub noted : AllNotes (NoteHolds z b h) v.notes
 
-module _ (sound : ℕ → Cells → Type 0) (z : Size) where
+-- what is asked of the cells and of the plain values, for so many slots
+module _ (sound : ℕ → Cells → Cells → Type 0) (z : Size) where
   -- what holds of the words and of the past, whatever is known of them
   pub record Shared (b : Board) (h : Past) : Type 0 where
-    -- the cells that the run leaves are sound, and the plain values are those
-    pub sound_now : sound z.slots h.cells
-    pub tied : (n : ℕ) (f : Field) → h.plain n f ≡ h.cells n f
+    -- what is asked of the cells that the run leaves, and of the plain values
+    pub sound_now : sound z.slots h.cells h.plain
     pub ranges : (n : ℕ) (f : Field) → InRange (b.cell n f)
     pub statuses : (p : ℕ) → StatusInRange (b.status p)
     pub formed : (p a : ℕ) → IsFormed z.slots (h.attempt p a)

@@ -25,7 +25,7 @@ joined_by v w = record v { rest = w.seat }
 
 -- a pass that was joined has nothing left
 abbrev pub spent_view : View
-spent_view = record (new_view (record { seats = 0; slots = 0; starts = record { attempt = 0; install = 0; stamp = 0; epoch = 0; version = 0 } }) 0 false []) { live = false }
+spent_view = record (new_view (record { seats = 0; slots = 0; shares = []; starts = record { attempt = 0; install = 0; stamp = 0; epoch = 0; version = 0 } }) 0 false []) { live = false }
 
 abbrev pub nothing_placed : Placing
 nothing_placed = record { seat = 0; number = 0; node = 0; field = Spare; old = 0; early = false }

@@ -9,6 +9,7 @@
 mod law;
 mod opening;
 mod plays;
+mod share;
 mod view;
 
 pub use law::Law;
@@ -17,4 +18,5 @@ pub use plays::{
     JoinPass, LoadCell, LoadClock, LoadInstall, LoadStatus, LoadWord, MakePass, PlaceInstall,
     PublishAttempt, StoreInstall, StoreWord, TakeInstall,
 };
+pub use share::Share;
 pub use view::PassView;

@@ -1,5 +1,6 @@
 //! What a table is told once, when it is made: its size, what its counters open at, and the exchanges that its passes
 //! are given.
+use crate::share::Share;
 use pc_model::Field;
 use std::marker::Model;
 
@@ -40,6 +41,8 @@ pub struct Opening {
     pub seats: usize,
     /// How many slots there are.
     pub slots: usize,
+    /// What each pass has of them, by seats.
+    pub shares: Vec<Share>,
     /// What the counters open at.
     pub starts: Starts,
     /// The changes of the exchanges that passes are given.
