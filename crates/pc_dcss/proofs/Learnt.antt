@@ -14,7 +14,7 @@ use Rattle.pc_exchange_law.specs.Wholes.{Whole}
 use Rattle.pc_dcss.specs.Installs.{KeepsNotes}
 
 pub learns_none : (k : PassKnows) → Learns k k
-learns_none k = record { own = refl; ready = refl; noted = λ n h. h; told = λ n h. h }
+learns_none k = record { own = refl; ready = refl; slots = refl; noted = λ n h. h; told = λ n h. h }
 
 pub learns_same : (k k' : PassKnows) → k' ≡ k → Learns k k'
 unfolding learns_none
@@ -24,6 +24,7 @@ pub learns_then : (a b c : PassKnows) → Learns a b → Learns b c → Learns a
 learns_then a b c x y = record {
   own = y.own ∙ x.own;
   ready = y.ready ∙ x.ready;
+  slots = y.slots ∙ x.slots;
   noted = λ n h. y.noted n (x.noted n h);
   told = λ n h. y.told n (x.told n h);
 }

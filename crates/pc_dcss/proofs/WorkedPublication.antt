@@ -1,6 +1,6 @@
 -- The conditions of a publication and of an install of the own exchange on a worked view: a pass of a board that has opened
 -- stores the words of one change, publishes, and knows then what an install asks for. So they can be met.
-use Rattle.std.proofs.Common.{◌≡◌, ℕ, zero, suc, ◌+◌, ◌*◌, ◌<◌, ◌≤◌, ◌^◌, inl, inr, true, false, [], ◌∷◌, refl, sym, ap, subst, arith}
+use Rattle.std.proofs.Common.{◌≡◌, ℕ, zero, suc, ◌+◌, ◌*◌, ◌<◌, ◌≤◌, ◌^◌, inl, inr, true, false, [], ◌∷◌, None, refl, sym, ap, subst, arith}
 use mathlib.Core.Option.{some, some-injective, some-ne-none}
 use lib.ListN.{get_elem?}
 use Rattle.pc_model.specs.declared.cell.Field.TheVariants.{Version}
@@ -15,11 +15,15 @@ use Rattle.pc_rule_law.specs.Views.{View, word_in}
 use Rattle.pc_rule_law.proofs.Lists.{all_one, none_has}
 use Rattle.pc_model.specs.Forms.{Form, Fits}
 use Rattle.pc_history.specs.Footprints.{IsAmong, RaisesVersionOf}
+use Rattle.pc_model.specs.Cells.{IsOdd}
+use Rattle.pc_protocol.specs.Links.{MarksAlone}
 use Rattle.pc_protocol.specs.Notes.{clock_was}
 use Rattle.pc_protocol.specs.Seeing.{ChangesVersion}
 use Rattle.pc_exchange_law.proofs.SeenStamps.{none_above, above_more}
 use Rattle.pc_exchange_law.specs.ExchangeConditions.{KnowsOld, was_opened, KnowsBasis}
+use Rattle.pc_exchange_law.specs.OwnSlots.{first_slots}
 use Rattle.pc_exchange_law.specs.Passes.{PassKnows}
+use Rattle.pc_exchange_law.specs.Slots.{IsHeld}
 use Rattle.pc_exchange_law.specs.Paths.{new_path}
 use Rattle.pc_exchange_law.specs.Ties.{exchange_of}
 use Rattle.pc_rule.specs.Conditions.{MayPublish}
@@ -30,13 +34,13 @@ use Rattle.pc_rule.specs.declared.refs.RefKind.TheVariants.{Exchange}
 use Rattle.pc_dcss.specs.Installs.{KnowsPlace}
 
 abbrev two : Size
-two = record { seats = 2; slots = 1; starts = record { attempt = 3; install = 0; stamp = 5; epoch = 1; version = 0 } }
+two = record { seats = 2; slots = 1; shares = 1 ∷ 0 ∷ []; starts = record { attempt = 3; install = 0; stamp = 5; epoch = 1; version = 0 } }
 
 abbrev raise : Changed
 raise = change 1 Version 0 2
 
 abbrev to_raise : Attempt
-to_raise = record { mode = 0; changes = raise ∷ []; visits = []; reads = [] }
+to_raise = record { mode = 0; changes = raise ∷ []; visits = []; reads = []; fresh = None }
 
 the_change : (i : ℕ) (x : Changed) → get_elem? to_raise.changes i ≡ some x → i ≡ 0
 the_change zero x at = refl
@@ -80,6 +84,7 @@ abbrev knowing : PassKnows
 knowing = record {
   own = record { number = 3; busy = false; withdrew = false; words = stored.attempt.words };
   ready = true;
+  slots = first_slots two 0;
   noted = [];
   told = clock_was 5 ∷ [];
 }
@@ -92,6 +97,16 @@ raising a (inl is) = subst (RaisesVersionOf (exchange_of to_raise)) (sym (ap (λ
   rises = inl (omega arith);
 }
 raising a (inr none) = absurd none
+
+-- no node is marked, and the one that is changed is the sentinel
+marking : MarksAlone (exchange_of to_raise)
+marking a b (inl is) among field odd = absurd (let two_is_odd : IsOdd 2 = subst (λ (x : Changed). IsOdd x.new) is odd in
+    let clash : 0 ≡ 1 = two_is_odd in cc)
+marking a b (inr none) among field odd = absurd none
+
+touching : (a : Changed) → IsAmong a to_raise.changes → IsHeld knowing a.node
+touching a (inl is) = inl (ap (λ (x : Changed). x.node) is)
+touching a (inr none) = absurd none
 
 -- the board opened with the version that it changes
 basing : KnowsBasis two knowing to_raise
@@ -107,6 +122,7 @@ may_publish form fits = (
   5,
   [],
   refl,
+  refl,
   record {
     rests = refl;
     room = omega arith;
@@ -114,6 +130,9 @@ may_publish form fits = (
     above = above_more (clock_was 5) [] 5 (omega arith) (none_above 5);
     formed = formed;
     raises = raising;
+    marks = marking;
+    touches = λ a among. inl (touching a among);
+    makes = tt;
     seen = inl (refl, (refl, refl));
     described = describes_too 1 to_raise stored.attempt.words described;
     fits = fits;

@@ -7,7 +7,8 @@ use Rattle.std.proofs.Math.Logic.{∥∥₁_elim}
 use Rattle.std.proofs.Props.{props}
 use Rattle.pc_model.specs.declared.cell.Field.{Field}
 use Rattle.pc_model.specs.declared.shape.Shape.{Ghosts}
-use Rattle.pc_model.specs.Cells.{IsNode}
+use Rattle.pc_model.specs.declared.cell.Field.TheVariants.{Version}
+use Rattle.pc_model.specs.Cells.{IsEven, IsNode}
 use Rattle.pc_model.specs.Forms.{Form, IsSound}
 use Rattle.pc_model.specs.Exchanges.{Exchange as Exchanged}
 use Rattle.pc_history.specs.Footprints.{IsAmong}
@@ -26,8 +27,9 @@ use Rattle.pc_words.proofs.Statuses.{packed_unpacked, unpacked_in_range}
 use Rattle.pc_exchange_law.specs.Passes.{PassKnows}
 use Rattle.pc_protocol.proofs.Stages.{same_stamp}
 use Rattle.pc_exchange_law.specs.TieLaws.{run_up_to, maker_of}
-use Rattle.pc_exchange_law.specs.Ties.{code}
+use Rattle.pc_exchange_law.specs.Ties.{code, CellsAreSound}
 use Rattle.pc_exchange_law.specs.WholeSeats.{IsWholeClosed}
+use Rattle.pc_rule_law.specs.declared.share.Share.{Share}
 use Rattle.pc_rule_law.specs.Past.{Has}
 use Rattle.pc_rule_law.specs.Board.{Size, board_in, own_status, at_own, at_cell, place_number, address}
 use Rattle.pc_rule_law.specs.Values.{IsPlainValue, HasPlainValue}
@@ -60,28 +62,28 @@ status_prop s = hlevel (props, stage_prop s.stage)
 
 module _ {H : Type 0} {S : Ghosts H} (c : Closed H S) (n : ℕ) (f : Field) (node : IsNode (closed_size c).slots n) where
   pub word_stored : IsWord (slice_index (words_left c) (address (closed_size c) (at_cell n f)))
-  word_stored = ∥∥₁_elim c.closed (hlevel props) (λ k. word_is_stored (IsSound S.form) (closed_size c) (words_left c) k.1.closed n f node)
+  word_stored = ∥∥₁_elim c.closed (hlevel props) (λ k. word_is_stored (CellsAreSound S.form) (closed_size c) (words_left c) k.1.closed n f node)
 
   -- the kind of the word that was read at a cell's address is that of the cell
   pub cell_read : (k : WordKind) (r at : ℕ) → k ≡ kind r → r ≡ slice_index (words_left c) at → at ≡ place_number n f → k ≡ (board_left c).cell n f
   cell_read k r at kind_is read place = kind_is ∙ ap kind (read ∙ ap (slice_index (words_left c)) place)
 
   pub no_install_left : (q k : ℕ) → (board_left c).cell n f ≢ Install q k
-  no_install_left q k is = ∥∥₁_elim c.closed (hlevel props) (λ k'. is_no_install (IsSound S.form) (closed_size c) (words_left c) k'.1.closed n f node q k is)
+  no_install_left q k is = ∥∥₁_elim c.closed (hlevel props) (λ k'. is_no_install (CellsAreSound S.form) (closed_size c) (words_left c) k'.1.closed n f node q k is)
 
   pub refers_left : (p a : ℕ) → (board_left c).cell n f ≡ Exchange p a → Refers (closed_size c) (words_left c) n f p a
-  refers_left p a is = ∥∥₁_elim c.closed (hlevel props) (λ k. refers (IsSound S.form) (closed_size c) (words_left c) k.1.closed n f node p a is)
+  refers_left p a is = ∥∥₁_elim c.closed (hlevel props) (λ k. refers (CellsAreSound S.form) (closed_size c) (words_left c) k.1.closed n f node p a is)
 
   pub status_stored : (p a : ℕ) → (board_left c).cell n f ≡ Exchange p a → IsStatus (slice_index (words_left c) (address (closed_size c) (at_own p own_status)))
   status_stored p a is = let r : ℕ = slice_index (words_left c) (address (closed_size c) (at_own p own_status)) in
-      let stored : IsOfClosed S.form (closed_size c) (words_left c) → IsStatus r = λ k. status_is_stored (IsSound S.form) (closed_size c) (words_left c) k.1.closed n f node p a is in
+      let stored : IsOfClosed S.form (closed_size c) (words_left c) → IsStatus r = λ k. status_is_stored (CellsAreSound S.form) (closed_size c) (words_left c) k.1.closed n f node p a is in
       (unpacked r, ∥∥₁_elim c.closed (status_prop (unpacked r)) (λ k. unpacked_in_range r (stored k)), ∥∥₁_elim c.closed (hlevel props) (λ k. packed_unpacked r (stored k)))
 
   -- so what the words say of a cell is its one plain value
   pub only_left : (x : ℕ) → IsPlainValue (board_left c) n f ((board_left c).cell n f) x → HasPlainValue (board_left c) n f x
   only_left x is = record {
     says = is;
-    no_other = λ y so. ∥∥₁_elim c.closed (hlevel props) (λ k. let left = left_has (IsSound S.form) (closed_size c) (words_left c) k.1.closed n f node in left.no_other y so ∙ sym (left.no_other x is));
+    no_other = λ y so. ∥∥₁_elim c.closed (hlevel props) (λ k. let left = left_has (CellsAreSound S.form) (closed_size c) (words_left c) k.1.closed n f node in left.no_other y so ∙ sym (left.no_other x is));
   }
 
 never_both : (s : ℕ) (cause : Cause) → committed s ≡ aborted cause → ⊥
@@ -96,10 +98,11 @@ run_left {S = S} c b k words left sized w passes told = record {
   begins = w.begins;
   run = run_up_to w.history;
   stands = w.run.world;
-  leaves = subst (λ (l : List ℕ). (n : ℕ) (f : Field) → IsNode (closed_size c).slots n → HasPlainValue (board_in (closed_size c) l) n f (cells_after w.history.opening (run_up_to w.history) n f)) (sym left)
-      (subst (λ (z : Size). (n : ℕ) (f : Field) → IsNode z.slots n → HasPlainValue (board_in z words) n f (cells_after w.history.opening (run_up_to w.history) n f)) (sym sized)
-      (λ n f node. subst (λ (x : ℕ). HasPlainValue (board_in (board_size b) words) n f x) (sym (w.leaves n f))
-      (left_has (IsSound S.form) (board_size b) words w.closed n f node)));
+  leaves = subst (λ (l : List ℕ). (n : ℕ) (f : Field) → IsNode (closed_size c).slots n → IsEven (cells_after w.history.opening (run_up_to w.history) n Version) → HasPlainValue (board_in (closed_size c) l) n f (cells_after w.history.opening (run_up_to w.history) n f)) (sym left)
+      (subst (λ (z : Size). (n : ℕ) (f : Field) → IsNode z.slots n → IsEven (cells_after w.history.opening (run_up_to w.history) n Version) → HasPlainValue (board_in z words) n f (cells_after w.history.opening (run_up_to w.history) n f)) (sym sized)
+      (λ n f node even. subst (λ (x : ℕ). HasPlainValue (board_in (board_size b) words) n f x)
+      (w.shown n f (subst IsEven (w.leaves n Version) even) ∙ sym (w.leaves n f))
+      (left_has (CellsAreSound S.form) (board_size b) words w.closed n f node)));
   maker = λ s. maker_of (w.history.drawn_for s);
   once = λ x y i x_in y_in of_x of_y. same_stamp x.stamp y.stamp (sym (w.run.made x i x_in of_x) ∙ w.run.made y i y_in of_y);
   unmade = w.run.unmade;
@@ -118,6 +121,7 @@ run_left {S = S} c b k words left sized w passes told = record {
 }
 
 -- and no install stands in them
-pub none_stand : {H : Type 0} (b : Board H) (form : Form) (k : PassKnows) (words : List ℕ) → IsWholeClosed form (board_size b) k words → let z = size_from b.seats b.slots b.starts in
+pub none_stand : {H : Type 0} (b : Board H) (form : Form) (k : PassKnows) (words : List ℕ) → IsWholeClosed form (board_size b) k words → (shares : List Share) → shares ≡ b.shares.items
+    → let z = size_from b.seats b.slots shares b.starts in
     (n : ℕ) (f : Field) → IsNode z.slots n → (q k : ℕ) → (board_in z words).cell n f ≢ Install q k
-none_stand b form k words c = is_no_install (IsSound form) (size_from b.seats b.slots b.starts) words (closed_stands b form k words c).1.closed
+none_stand b form k words c shares same = is_no_install (CellsAreSound form) (size_from b.seats b.slots shares b.starts) words (closed_stands b form k words c shares same).1.closed

@@ -15,7 +15,7 @@ use Rattle.pc_exchange_law.specs.WholeSeats.{whole_maker}
 use Rattle.pc_rule_law.proofs.Lists.{below_length}
 use Rattle.pc_rule.specs.declared.board.Board.{Board}
 use Rattle.pc_rule.specs.declared.board.Pass.{Pass}
-use Rattle.pc_rule.specs.declared.share.Share.{Share}
+use Rattle.pc_rule_law.specs.declared.share.Share.{Share}
 use Rattle.pc_rule.specs.declared.visit.Visit.{Visit}
 use Rattle.pc_rule.specs.Passes.{whole, view, knows, board_size, listed, visits, IsBlank, IsPassOf}
 use Rattle.pc_rule.specs.Opened.{last_whole, AreOpened}
@@ -31,7 +31,7 @@ module _ {H : Type 0} {S : Ghosts H} (b : Board H) (o : Opening) where
     fresh : (view p).fresh ≡ true
     notes : (view p).notes ≡ []
     posted : (view p).posted ≡ false
-    nothing : knows p ≡ knows_nothing (view p).size.starts.attempt
+    nothing : knows p ≡ knows_nothing (view p).size (view p).seat
     attempt : (view p).attempt ≡ opening_own (size_of o)
     install : (view p).install ≡ opening_install (size_of o)
     none : IsBlank p
@@ -41,8 +41,8 @@ module _ {H : Type 0} {S : Ghosts H} (b : Board H) (o : Opening) where
   module _ (passes : List (Pass H S)) (opened : AreOpened b o passes) where
     each_new : (i : ℕ) (p : Pass H S) → get_elem? passes i ≡ some p → IsNew i p
     each_new i p at = let q = opened.1 i p at in let lt : i < length passes = below_length passes i p at in let n : length passes ≡ o.seats = opened.0 in dite (ℕ_discrete (i + 1) o.seats)
-        (λ e. let l = q.1 e in let is : whole p ≡ last_whole o i = l.1 in record { of = l.0; seat = ap (λ (x : Whole). x.view.seat) is; fresh = ap (λ (x : Whole). x.view.fresh) is; notes = ap (λ (x : Whole). x.view.notes) is; posted = ap (λ (x : Whole). x.view.posted) is; nothing = ap (λ (x : Whole). x.knows) is ∙ sym (ap (λ (x : Whole). knows_nothing x.view.size.starts.attempt) is); attempt = ap (λ (x : Whole). x.view.attempt) is; install = ap (λ (x : Whole). x.view.install) is; none = l.2; unlisted = l.4; path = ap (λ (x : Whole). x.path) is })
-        (λ ne. let m = q.0 (omega arith) in let is : whole p ≡ whole_maker (last_whole o i) = m.1 in record { of = m.0; seat = ap (λ (x : Whole). x.view.seat) is; fresh = ap (λ (x : Whole). x.view.fresh) is; notes = ap (λ (x : Whole). x.view.notes) is; posted = ap (λ (x : Whole). x.view.posted) is; nothing = ap (λ (x : Whole). x.knows) is ∙ sym (ap (λ (x : Whole). knows_nothing x.view.size.starts.attempt) is); attempt = ap (λ (x : Whole). x.view.attempt) is; install = ap (λ (x : Whole). x.view.install) is; none = m.2; unlisted = m.3; path = ap (λ (x : Whole). x.path) is })
+        (λ e. let l = q.1 e in let is : whole p ≡ last_whole o i = l.1 in record { of = l.0; seat = ap (λ (x : Whole). x.view.seat) is; fresh = ap (λ (x : Whole). x.view.fresh) is; notes = ap (λ (x : Whole). x.view.notes) is; posted = ap (λ (x : Whole). x.view.posted) is; nothing = ap (λ (x : Whole). x.knows) is ∙ sym (ap (λ (x : Whole). knows_nothing x.view.size x.view.seat) is); attempt = ap (λ (x : Whole). x.view.attempt) is; install = ap (λ (x : Whole). x.view.install) is; none = l.2; unlisted = l.4; path = ap (λ (x : Whole). x.path) is })
+        (λ ne. let m = q.0 (omega arith) in let is : whole p ≡ whole_maker (last_whole o i) = m.1 in record { of = m.0; seat = ap (λ (x : Whole). x.view.seat) is; fresh = ap (λ (x : Whole). x.view.fresh) is; notes = ap (λ (x : Whole). x.view.notes) is; posted = ap (λ (x : Whole). x.view.posted) is; nothing = ap (λ (x : Whole). x.knows) is ∙ sym (ap (λ (x : Whole). knows_nothing x.view.size x.view.seat) is); attempt = ap (λ (x : Whole). x.view.attempt) is; install = ap (λ (x : Whole). x.view.install) is; none = m.2; unlisted = m.3; path = ap (λ (x : Whole). x.path) is })
 
     pub all_opened : 0 < o.seats → board_size b ≡ size_of o → length b.shares.items ≡ o.seats → AreAll b passes
     all_opened one sized shares = let seats : (board_size b).seats ≡ o.seats = ap (λ (z : Size). z.seats) sized in record {
@@ -59,7 +59,7 @@ module _ {H : Type 0} {S : Ghosts H} (b : Board H) (o : Opening) where
     pub none_known : KnowNothing passes
     none_known i p at = (each_new i p at).nothing
 
-    -- so it has begun an operation, and has visited nothing
+    -- so it is at rest, and has visited nothing
     visits_none : (l : List Visit) (x : Whole) → x.path ≡ new_path → (path_with l x.path).visits ≡ map visited_of l
         → (path_with l x.path ≡ new_path) × (l ≡ [])
     visits_none [] x is held = (ap dropped is, refl)

@@ -2,6 +2,7 @@
 use Rattle.std.proofs.Common.{◌≡◌, ℕ, List, sym, ap, ◌∙◌, subst}
 use Rattle.pc_model.specs.Forms.{Form}
 use Rattle.pc_rule_law.specs.declared.opening.Starts.{Starts}
+use Rattle.pc_rule_law.specs.declared.share.Share.{Share}
 use Rattle.pc_rule_law.specs.Board.{Size}
 use Rattle.pc_exchange_law.specs.Passes.{PassKnows}
 use Rattle.pc_exchange_law.specs.WholeSeats.{IsWholeClosed}
@@ -10,9 +11,12 @@ use Rattle.pc_rule.specs.Passes.{board_size}
 use Rattle.pc_rule.specs.Sizes.{size_from, IsOfClosed}
 
 module _ {H : Type 0} (b : Board H) where
-  pub same_size : size_from b.seats b.slots b.starts ≡ board_size b
-  same_size = let key = b.table.shared.key in ap (λ (n : ℕ). size_from n b.slots b.starts) b.sized.0
-      ∙ (ap (λ (n : ℕ). size_from key.seats n b.starts) b.sized.1 ∙ ap (λ (s : Starts). size_from key.seats key.slots s) b.started)
+  pub same_size : (shares : List Share) → shares ≡ b.shares.items → size_from b.seats b.slots shares b.starts ≡ board_size b
+  same_size shares same = let key = b.table.shared.key in ap (λ (n : ℕ). size_from n b.slots shares b.starts) b.sized.0
+      ∙ (ap (λ (n : ℕ). size_from key.seats n shares b.starts) b.sized.1
+      ∙ (ap (λ (l : List Share). size_from key.seats key.slots l b.starts) (same ∙ b.sized.2)
+      ∙ ap (λ (s : Starts). size_from key.seats key.slots key.shares.items s) b.started))
 
-  pub closed_stands : (form : Form) (k : PassKnows) (words : List ℕ) → IsWholeClosed form (board_size b) k words → IsOfClosed form (size_from b.seats b.slots b.starts) words
-  closed_stands form k words c = (k, subst (λ (z : Size). IsWholeClosed form z k words) (sym same_size) c)
+  pub closed_stands : (form : Form) (k : PassKnows) (words : List ℕ) → IsWholeClosed form (board_size b) k words → (shares : List Share)
+      → shares ≡ b.shares.items → IsOfClosed form (size_from b.seats b.slots shares b.starts) words
+  closed_stands form k words c shares same = (k, subst (λ (z : Size). IsWholeClosed form z k words) (sym (same_size shares same)) c)

@@ -9,7 +9,7 @@ use Rattle.atomic_table.proofs.Lists.{drop_at}
 use Rattle.pc_model.specs.declared.call.Entry.{Entry}
 use Rattle.pc_model.specs.declared.shape.Shape.{Ghosts}
 use Rattle.pc_rule.specs.declared.board.Pass.{Pass}
-use Rattle.pc_rule.specs.declared.share.Share.{Share}
+use Rattle.pc_rule_law.specs.declared.share.Share.{Share}
 use Rattle.pc_rule.specs.Passes.{share_of, recorded}
 use Rattle.pc_rule.specs.Recorded.{calls_of, recorded_by}
 

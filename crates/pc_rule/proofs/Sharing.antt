@@ -10,7 +10,7 @@ use Rattle.pc_words.specs.declared.word.WordKind.TheVariants.{Plain}
 use Rattle.pc_words.specs.Words.{InRange}
 use Rattle.pc_rule_law.specs.Past.{IsFormed}
 use Rattle.pc_rule_law.specs.Openings.{attempt_of}
-use Rattle.pc_rule.specs.declared.share.Share.{Share}
+use Rattle.pc_rule_law.specs.declared.share.Share.{Share}
 use Rattle.pc_rule.specs.Shares.{slots_of}
 
 -- what stands in a mapped list comes from the list

@@ -40,8 +40,8 @@ path_still x y begun visits room same sized was = record {
 none_rise : (visits : List Visit) → visits ≡ [] → VersionsRise visits
 none_rise visits none i j d lt below = absurd (let n : length visits ≡ 0 = ap length none in omega arith)
 
-pub new_holds : (x : Whole) (visits : List Visit) (room : ℕ) → visits ≡ [] → x.path.begun ≡ true → x.view.size.slots + 1 ≤ room
-    → HoldsPath x true visits room
+pub new_holds : (x : Whole) (visits : List Visit) (room : ℕ) → visits ≡ [] → x.path.begun ≡ false → x.view.size.slots + 1 ≤ room
+    → HoldsPath x false visits room
 new_holds x visits room none begun ample = record {
   begun = begun;
   visits = subst (λ (l : List Visit). (path_with l x.path).visits ≡ map visited_of l) (sym none) refl;

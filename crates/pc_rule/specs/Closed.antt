@@ -9,7 +9,7 @@ use Rattle.pc_rule.specs.Sizes.{size_from}
 module _ {H : Type 0} {S : Ghosts H} where
   -- the size of the board that was closed
   abbrev pub closed_size : Closed H S → Size
-  closed_size c = size_from c.seats c.slots c.starts
+  closed_size c = size_from c.seats c.slots c.shares.items c.starts
 
   -- the calls that the passes recorded
   abbrev pub history_of : Closed H S → List Entry

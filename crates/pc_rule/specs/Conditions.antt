@@ -1,5 +1,5 @@
 -- What is asked of a step on a word of a node, with the raw words that it finds and puts.
-use Rattle.std.specs.Prelude.{◌≡◌, ℕ, ◌+◌, List}
+use Rattle.std.specs.Prelude.{◌≡◌, ℕ, ◌+◌, true, List, None}
 use Rattle.pc_model.specs.declared.cell.Field.{Field}
 use Rattle.pc_model.specs.Forms.{Form}
 use Rattle.pc_words.specs.declared.word.WordKind.{WordKind}
@@ -13,6 +13,7 @@ use Rattle.pc_rule_law.specs.Views.{View, word_in}
 use Rattle.pc_rule_law.specs.Conditions.{CanPlace, CanTake}
 use Rattle.pc_exchange_law.specs.ExchangeConditions.{MayPublish as CanPublish}
 use Rattle.pc_exchange_law.specs.Knowing.{IsAboveSeen, after_publication}
+use Rattle.pc_exchange_law.specs.OwnSlots.{MakesOwn, makes_one}
 use Rattle.pc_exchange_law.specs.Passes.{PassKnows}
 use Rattle.pc_exchange_law.specs.Ties.{code, exchange_of}
 use Rattle.pc_exchange_law.specs.WholePlays.{CountsReads}
@@ -27,14 +28,27 @@ MayPlaceInstall z v n f old new = (x : ℕ) × (p : ℕ) × (a : ℕ) × (old �
 abbrev pub MayTakeInstall : Size → View → ℕ → Field → ℕ → ℕ → Type 0
 MayTakeInstall z v n f old new = (q : ℕ) × (k : ℕ) × (c : WordKind) × (old ≡ raw (Install q k)) × (new ≡ raw c) × CanTake z v q k n f c
 
--- the new status says that the own next attempt is undecided, whose words are stored, and which raises its nodes and keeps
--- cells sound; and the clock was loaded
+-- the new status says that the own next attempt is undecided, whose words are stored, which makes no node, raises
+-- its nodes and keeps cells sound; and the clock was loaded
 abbrev pub MayPublish : Form → Size → Whole → ℕ → Type 0
 MayPublish form z x new = (e : Attempt) × (c : ℕ) × (keys : List ℕ)
-    × (new ≡ packed (record { number = x.knows.own.number + 1; stage = Undecided })) × CanPublish form z x.knows x.path e c keys
+    × (new ≡ packed (record { number = x.knows.own.number + 1; stage = Undecided })) × (e.fresh ≡ None)
+    × CanPublish form z x.knows x.path e c keys
 
 -- what the pass knows beside its view after it published: that its next attempt is an exchange, which the stored words describe,
 -- and which was published with a clock that was loaded before, above each stamp that the pass had seen; and its reads go by its mode
+-- the same of an attempt that makes the spare's node
+abbrev pub MayPublishFresh : Form → Size → Whole → ℕ → Type 0
+MayPublishFresh form z x new = (e : Attempt) × (c : ℕ) × (keys : List ℕ)
+    × (new ≡ packed (record { number = x.knows.own.number + 1; stage = Undecided })) × (makes_one e.fresh ≡ true)
+    × CanPublish form z x.knows x.path e c keys
+
 abbrev pub KnowsPublished : Whole → PassKnows → Type 0
 KnowsPublished x k = (e : Attempt) × (c : ℕ) × Describes x.view.size.slots e (word_in x.knows.own.words) × Has x.knows.told (clock_was c)
+    × (k ≡ after_publication x.knows (code x.view.seat (x.knows.own.number + 1)) (exchange_of e) c) × CountsReads x.path e × IsAboveSeen x.knows.told c × (e.fresh ≡ None)
+
+-- and of one that makes the spare's node
+abbrev pub KnowsPublishedFresh : Whole → PassKnows → Type 0
+KnowsPublishedFresh x k = (e : Attempt) × (c : ℕ) × Describes x.view.size.slots e (word_in x.knows.own.words) × Has x.knows.told (clock_was c)
     × (k ≡ after_publication x.knows (code x.view.seat (x.knows.own.number + 1)) (exchange_of e) c) × CountsReads x.path e × IsAboveSeen x.knows.told c
+    × MakesOwn x.knows.slots e.fresh × (makes_one e.fresh ≡ true)

@@ -3,7 +3,8 @@ use Rattle.std.specs.Prelude.{◌≡◌, ◌≢◌, ℕ, ◌<◌, ◌≤◌, Lis
 use Rattle.std.specs.Mem.Slots.{slots_items}
 use Rattle.pc_model.specs.declared.cell.Field.{Field}
 use Rattle.pc_model.specs.declared.shape.Shape.{Ghosts}
-use Rattle.pc_model.specs.Cells.{Cells, IsNode}
+use Rattle.pc_model.specs.declared.cell.Field.TheVariants.{Version}
+use Rattle.pc_model.specs.Cells.{Cells, IsEven, IsNode}
 use Rattle.pc_model.specs.Exchanges.{Exchange}
 use Rattle.pc_model.specs.Forms.{IsSound}
 use Rattle.pc_history.specs.Footprints.{IsAmong}
@@ -29,9 +30,10 @@ module _ {H : Type 0} {S : Ghosts H} where
   abbrev pub board_left : Closed H S → Board
   board_left c = board_in (closed_size c) (words_left c)
 
-  -- of each word of a node the words that are left say the value that these cells have there, and no other
+  -- of each word of a node that is unmarked in these cells the words that are left say the value that they have there, and no
+  -- other
   abbrev pub LeavesCells : Closed H S → Cells → Type 0
-  LeavesCells c cells = (n : ℕ) (f : Field) → IsNode (closed_size c).slots n → HasPlainValue (board_left c) n f (cells n f)
+  LeavesCells c cells = (n : ℕ) (f : Field) → IsNode (closed_size c).slots n → IsEven (cells n Version) → HasPlainValue (board_left c) n f (cells n f)
 
   -- what these passes have noted of the run, one after another
   abbrev pub told_by : List (Pass H S) → List Note

@@ -16,7 +16,7 @@ use Rattle.pc_rule.specs.declared.board.Board.{Board}
 use Rattle.pc_rule.specs.declared.board.Pass.{Pass}
 use Rattle.pc_rule.specs.declared.opening.Place.{Place}
 use Rattle.pc_rule.specs.declared.records.Carried.{Carried}
-use Rattle.pc_rule.specs.declared.share.Share.{Share}
+use Rattle.pc_rule_law.specs.declared.share.Share.{Share}
 use Rattle.pc_rule.specs.declared.visit.Visit.{Visit}
 use Rattle.pc_rule.specs.Carrying.{entries_of}
 use Rattle.pc_rule.specs.Walking.{path_with}

@@ -6,7 +6,7 @@ use lib.ListN.{get_elem?}
 use Rattle.pc_model.specs.declared.call.Entry.{Entry}
 use Rattle.pc_model.specs.declared.shape.Shape.{Ghosts}
 use Rattle.pc_rule.specs.declared.board.Pass.{Pass}
-use Rattle.pc_rule.specs.declared.share.Share.{Share}
+use Rattle.pc_rule_law.specs.declared.share.Share.{Share}
 use Rattle.pc_rule.specs.Passes.{share_of, recorded, IsBlank}
 
 -- for how many calls these shares have room

@@ -1,5 +1,5 @@
 -- What is asked of the opening of a board, and what its passes are then and at the closing.
-use Rattle.std.specs.Prelude.{◌≡◌, ℕ, ◌+◌, ◌^◌, ◌<◌, ◌≤◌, true, false, List, [], ◌∷◌, length}
+use Rattle.std.specs.Prelude.{◌≡◌, ℕ, ◌+◌, ◌^◌, ◌<◌, ◌≤◌, true, false, List, [], ◌∷◌, length, map}
 use mathlib.Core.Option.{some}
 use lib.ListN.{get_elem?}
 use Rattle.pc_model.specs.declared.shape.Shape.{Ghosts}
@@ -7,10 +7,11 @@ use Rattle.pc_model.specs.Cells.{IsEven}
 use Rattle.pc_rule_law.specs.declared.opening.Starts.{Starts}
 use Rattle.pc_rule_law.specs.Board.{Size}
 use Rattle.pc_rule_law.specs.Rule.{opening_install, opening_own}
+use Rattle.pc_rule_law.specs.Tables.{slots_in}
 use Rattle.pc_rule_law.specs.Views.{Note}
 use Rattle.pc_rule.specs.declared.board.Board.{Board}
 use Rattle.pc_rule.specs.declared.board.Pass.{Pass}
-use Rattle.pc_rule.specs.declared.share.Share.{Share}
+use Rattle.pc_rule_law.specs.declared.share.Share.{Share}
 use Rattle.pc_exchange_law.specs.Paths.{new_path}
 use Rattle.pc_exchange_law.specs.Wholes.{knows_nothing}
 use Rattle.pc_rule.specs.Passes.{view, knows, board_size, listed, visits, path}
@@ -24,7 +25,7 @@ slots_of (share ∷ shares) = share.slots + slots_of shares
 
 -- the size of the board for these shares, with these starts
 abbrev pub size_for : List Share → Starts → Size
-size_for shares s = record { seats = length shares; slots = slots_of shares; starts = record { attempt = s.attempt; install = s.install; stamp = s.stamp; epoch = s.epoch; version = s.version } }
+size_for shares s = record { seats = length shares; slots = slots_of shares; shares = map slots_in shares; starts = record { attempt = s.attempt; install = s.install; stamp = s.stamp; epoch = s.epoch; version = s.version } }
 
 -- each counter starts at most at its last value, the epoch at least at 1, and the version is even
 pub record AreStarts (s : Starts) : Type 0 where
@@ -53,9 +54,9 @@ module _ {H : Type 0} {S : Ghosts H} where
 
   -- each pass knows nothing beside its view
   abbrev pub KnowNothing : List (Pass H S) → Type 0
-  KnowNothing passes = (i : ℕ) (p : Pass H S) → get_elem? passes i ≡ some p → knows p ≡ knows_nothing (view p).size.starts.attempt
+  KnowNothing passes = (i : ℕ) (p : Pass H S) → get_elem? passes i ≡ some p → knows p ≡ knows_nothing (view p).size (view p).seat
 
-  -- each pass has begun an operation, as long as passes come so, and has visited nothing
+  -- each pass is at rest, and has visited nothing
   abbrev pub NoneVisited : List (Pass H S) → Type 0
   NoneVisited passes = (i : ℕ) (p : Pass H S) → get_elem? passes i ≡ some p → (path p ≡ new_path) × (visits p ≡ [])
 

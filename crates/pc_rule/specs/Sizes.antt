@@ -1,13 +1,15 @@
 -- The size that numbers give, its limits, and when words are those of a closed board of that size.
-use Rattle.std.specs.Prelude.{◌≤◌, ℕ, List}
+use Rattle.std.specs.Prelude.{◌≤◌, ℕ, List, map}
 use Rattle.pc_model.specs.Forms.{Form}
 use Rattle.pc_rule_law.specs.declared.opening.Starts.{Starts}
+use Rattle.pc_rule_law.specs.declared.share.Share.{Share}
 use Rattle.pc_rule_law.specs.Board.{Size}
+use Rattle.pc_rule_law.specs.Tables.{slots_in}
 use Rattle.pc_exchange_law.specs.Passes.{PassKnows}
 use Rattle.pc_exchange_law.specs.WholeSeats.{IsWholeClosed}
 
-abbrev pub size_from : ℕ → ℕ → Starts → Size
-size_from seats slots s = record { seats = seats; slots = slots; starts = record { attempt = s.attempt; install = s.install; stamp = s.stamp; epoch = s.epoch; version = s.version } }
+abbrev pub size_from : ℕ → ℕ → List Share → Starts → Size
+size_from seats slots shares s = record { seats = seats; slots = slots; shares = map slots_in shares; starts = record { attempt = s.attempt; install = s.install; stamp = s.stamp; epoch = s.epoch; version = s.version } }
 
 -- a board has at most 32 passes and 61,000 slots
 abbrev pub AreWithinLimits : ℕ → ℕ → Type 0

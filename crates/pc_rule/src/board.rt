@@ -10,13 +10,12 @@ ghost use Rattle.pc_rule.specs.Walking.{HoldsPath};
 
 use crate::opening::Place;
 use crate::records::Records;
-use crate::share::Share;
 use crate::stored::InstallWords;
 use crate::visit::Visit;
 use atomic_table::{Seat, Table};
 use pc_exchange_law::{WholeLaw, WholeView};
 use pc_model::Shape;
-use pc_rule_law::{Opening, Starts};
+use pc_rule_law::{Opening, Share, Starts};
 use std::alloc::Global;
 use std::marker::PhantomData;
 
@@ -30,7 +29,7 @@ pub struct Board<H: Shape> {
     /// What each pass has of the board, by seats.
     pub(crate) shares: Vec<Share>,
     ghost started: { starts ≡ table.shared.key.starts },
-    ghost sized: { (seats ≡ table.shared.key.seats) × (slots ≡ table.shared.key.slots) },
+    ghost sized: { (seats ≡ table.shared.key.seats) × (slots ≡ table.shared.key.slots) × (shares.items ≡ table.shared.key.shares.items) },
     ghost wide: { (table.shared.table_id.words ≡ words_of (size_of table.shared.key)) × (table.shared.table_id.slots ≡ 0) },
     ghost small: { (seats ≤ 32) × (slots ≤ 61000) },
 }

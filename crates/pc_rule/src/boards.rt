@@ -7,9 +7,9 @@ ghost use Rattle.pc_rule.specs.Shares.{slots_of, size_for, AreStarts, AreAll, Al
 ghost use Rattle.pc_rule.specs.Recorded.{HaveShares};
 
 use crate::board::{Board, Pass};
-use crate::share::Share;
+use crate::recorded::copied;
 use pc_model::{Memory, Shape};
-use pc_rule_law::{Opening, Starts};
+use pc_rule_law::{Opening, Share, Starts};
 use std::alloc::Global;
 
 /// The usual starts: attempt 0, install 0, stamp 1, epoch 1, version 0.
@@ -40,7 +40,7 @@ fn all_slots(shares: &[Share]) -> usize
     slots
 }
 
-/// Opens a board with one pass per share: the sentinel alone is in use, and each pass is open. It takes all memory
+/// Opens a board with one pass per share: the sentinel alone is in use, and each pass is at rest. It takes all memory
 /// that the board needs; `Memory` comes where there is too little, and then none is held.
 /// - `shares`: 1 to 32, with at most 61,000 slots in all.
 /// - `starts`: what the counters start at, each at most its last value; the epoch from 1, and an even version.
@@ -64,9 +64,13 @@ pub fn open_board<H: Shape>(
     ensures knows { IfOk result (λ r. KnowNothing r.1.items) }
     ensures visited { IfOk result (λ r. NoneVisited r.1.items) }
 {
+    let Ok(own) = copied(alloc, shares) else {
+        return Err(Memory);
+    };
     let opening = Opening {
         seats: shares.len(),
         slots: all_slots(shares),
+        shares: own,
         starts,
         given: Vec::new(alloc),
         posted: false,

@@ -4,6 +4,7 @@
 ghost use Rattle.std.specs.Prelude.{◌≡◌, ◌-◌};
 ghost use Rattle.pc_model.specs.declared.cell.Field.TheVariants.{Version};
 ghost use Rattle.pc_words.specs.Statuses.{unpacked};
+ghost use Rattle.pc_exchange_law.specs.ExchangeConditions.{VisitsForDraw};
 ghost use Rattle.pc_exchange_law.specs.Knowing.{after_decision, after_withdrawal};
 ghost use Rattle.pc_exchange_law.specs.Ties.{code};
 ghost use Rattle.pc_exchange_law.specs.WholePlays.{CellSeen, LookedFor, StatusTried, after_decided, verdict_by};
@@ -18,13 +19,14 @@ use crate::refs::Ref;
 use pc_exchange_law::WholeLookFor;
 use pc_model::{Field, Shape};
 
-/// A load of the version of a node that an exchange visits, once a stamp was drawn for it. It tells of the version at every stamp
+/// A load of the version of a node that an exchange is known to visit, once a stamp was drawn for it. It tells of the version at every stamp
 /// that the pass knows of.
 pub fn step_17<H: Shape>(board: &Board<H>, pass: &mut Pass<H>, op: Ref, node: u32) -> u64
     requires pass { IsPassOf board.now pass.old }
     requires exchange { op.kind ≡ Exchange }
     requires drawn { HasDrawnFor (knows pass.old) op }
     requires inside { HasNode board.now node }
+    requires visited { VisitsForDraw (whole pass.old) node }
     ensures pass { IsSamePass pass.old pass.new }
     ensures told { CellSeen (whole pass.old) node Version result (whole pass.new) }
     ensures looked { LookedFor (whole pass.old) node result (whole pass.new) }

@@ -5,7 +5,7 @@ ghost use Rattle.pc_rule_law.specs.Board.{words_of};
 ghost use Rattle.pc_rule.specs.Sizes.{size_from, AreWithinLimits, IsOfClosed};
 
 use pc_model::{Entry, Shape};
-use pc_rule_law::Starts;
+use pc_rule_law::{Share, Starts};
 use std::alloc::Global;
 use std::marker::PhantomData;
 
@@ -14,12 +14,13 @@ pub struct Closed<H: Shape> {
     pub(crate) table: atomic_table::Closed<bool, Global>,
     pub(crate) seats: usize,
     pub(crate) slots: usize,
+    pub(crate) shares: Vec<Share>,
     pub(crate) starts: Starts,
     pub(crate) entries: Vec<Entry>,
     pub(crate) shape: PhantomData<H>,
     ghost small: { AreWithinLimits seats slots },
-    ghost laid: { IsFull table.words × (slots_len table.words ≡ words_of (size_from seats slots starts)) × (slots_len table.slots ≡ 0) },
-    ghost closed: { ∥ IsOfClosed H.form (size_from seats slots starts) (slots_items table.words) ∥₁ },
+    ghost laid: { IsFull table.words × (slots_len table.words ≡ words_of (size_from seats slots shares.items starts)) × (slots_len table.slots ≡ 0) },
+    ghost closed: { ∥ IsOfClosed H.form (size_from seats slots shares.items starts) (slots_items table.words) ∥₁ },
 }
 
 impl<H: Shape> Drop for Closed<H> {
@@ -28,6 +29,7 @@ impl<H: Shape> Drop for Closed<H> {
             table,
             seats: _,
             slots: _,
+            shares: _,
             starts: _,
             entries: _,
             shape: _,

@@ -30,12 +30,13 @@ pub fn close_board<H: Shape>(board: Board<H>, mut passes: Vec<Pass<H>>) -> Close
         unreachable!()
     };
     board.take_all(&mut last, passes);
-    let (table, mut entries) = board.end(last);
+    let (table, mut entries, shares) = board.end(last);
     entries.sort_unstable_by_key(|entry| entry.stamp);
     Closed {
         table,
         seats,
         slots,
+        shares,
         starts,
         entries,
         shape: PhantomData,

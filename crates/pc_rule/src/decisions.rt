@@ -6,7 +6,9 @@ ghost use Rattle.pc_words.specs.Statuses.{unpacked};
 ghost use Rattle.pc_exchange_law.specs.Knowing.{after_draw, after_refusal, after_decision, after_withdrawal, after_clearing};
 ghost use Rattle.pc_exchange_law.specs.Ties.{code, last_stamp};
 ghost use Rattle.pc_exchange_law.specs.WholePlays.{StatusTried, ReferenceTaken, after_clear, after_decided, verdict_by};
-ghost use Rattle.pc_protocol.specs.Histories.{withdrawn, aborted};
+ghost use Rattle.pc_protocol.specs.Histories.{Stage, withdrawn, aborted};
+ghost use Rattle.pc_protocol.specs.Notes.{verdict};
+ghost use Rattle.pc_rule_law.specs.Past.{Has};
 ghost use Rattle.pc_rule.specs.declared.refs.RefKind.TheVariants.{Exchange};
 ghost use Rattle.pc_rule.specs.Deciding.{MayDraw, MayDecide, MayWithdraw, MayPutNumber, MayClearOwn};
 ghost use Rattle.pc_rule.specs.Passes.{whole, view, knows, board_size, IsPassOf, IsSamePass, HasNode, HasPass};
@@ -90,7 +92,7 @@ pub fn step_16<H: Shape>(board: &Board<H>, pass: &mut Pass<H>, new: u64)
     requires pass { IsPassOf board.now pass.old }
     requires may { MayClearOwn (whole pass.old) new }
     ensures pass { IsSamePass pass.old pass.new }
-    ensures told { whole pass.new ≡ record (whole pass.old) { view = after_clear (view pass.old); knows = after_clearing (knows pass.old) } }
+    ensures told { (st : Stage) → Has (knows pass.old).told (verdict (code (view pass.old).seat (knows pass.old).own.number) st) → whole pass.new ≡ record (whole pass.old) { view = after_clear (view pass.old); knows = after_clearing (knows pass.old) st } }
 {
     let word = board.word_of(pass, 0);
     board

@@ -9,12 +9,14 @@ ghost use Rattle.pc_rule_law.specs.Conditions.{CanWrite};
 ghost use Rattle.pc_rule_law.specs.Plays.{ClockLoaded, after_write, after_publish, DescriptorLoaded};
 ghost use Rattle.pc_exchange_law.specs.Knowing.{DescriptorLoaded as WordLoaded, after_own_store};
 ghost use Rattle.pc_exchange_law.specs.WholePlays.{ClockSeen};
-ghost use Rattle.pc_rule.specs.Conditions.{MayPublish, KnowsPublished};
+ghost use Rattle.pc_rule.specs.Conditions.{MayPublish, KnowsPublished, MayPublishFresh, KnowsPublishedFresh};
 ghost use Rattle.pc_rule.specs.Passes.{whole, view, knows, aim, board_size, IsPassOf, IsSamePass, HasPass};
 
 use crate::board::{Board, Pass};
 use crate::stored::keep_word;
-use pc_exchange_law::{WholeLoadClock, WholeLoadWord, WholePublish, WholeStoreWord};
+use pc_exchange_law::{
+    WholeLoadClock, WholeLoadWord, WholePublish, WholePublishFresh, WholeStoreWord,
+};
 use pc_model::Shape;
 
 /// A load of the clock.
@@ -61,6 +63,24 @@ pub fn step_11<H: Shape>(board: &Board<H>, pass: &mut Pass<H>, new: u64)
         .table
         .shared
         .store::<WholePublish>(&mut pass.seat, word, new);
+    pass.attempts += 1;
+    pass.published = true;
+}
+
+/// Publishes the own next attempt, which makes the node of the own spare: a step 11.
+pub fn step_11_fresh<H: Shape>(board: &Board<H>, pass: &mut Pass<H>, new: u64)
+    requires pass { IsPassOf board.now pass.old }
+    requires may { MayPublishFresh H.form (board_size board.now) (whole pass.old) new }
+    ensures pass { IsSamePass pass.old pass.new }
+    ensures told { view pass.new ≡ after_publish (view pass.old) }
+    ensures learnt { KnowsPublishedFresh (whole pass.old) (knows pass.new) }
+    ensures aim { aim pass.new ≡ aim pass.old }
+{
+    let word = board.word_of(pass, 0);
+    board
+        .table
+        .shared
+        .store::<WholePublishFresh>(&mut pass.seat, word, new);
     pass.attempts += 1;
     pass.published = true;
 }

@@ -23,15 +23,14 @@ use crate::board::{Board, Pass};
 use crate::listed::list_room;
 use crate::opening::{Place, words_start};
 use crate::places::own_place;
-use crate::recorded::room_for;
+use crate::recorded::{copied, room_for};
 use crate::records::Records;
-use crate::share::Share;
 use crate::stored::{install_start, words_room};
 use crate::visit::{Visit, visit_room};
 use atomic_table::{Closed, Table};
 use pc_exchange_law::{WholeJoinPass, WholeLaw, WholeMakePass, WholeView};
 use pc_model::{Entry, Shape};
-use pc_rule_law::Opening;
+use pc_rule_law::{Opening, Share};
 use std::alloc::{AllocError, Global};
 use std::marker::PhantomData;
 
@@ -46,6 +45,7 @@ impl<H: Shape> Board<H> {
         requires may { MayOpen (IsSound H.form) (size_of opening.now) (opening_cells opening.now.starts.version) false [] }
         requires early { opening.now.starts.stamp ≤ last_stamp }
         requires shares { (length shares.now ≡ opening.now.seats) × (1 ≤ length shares.now) }
+        requires kept { opening.now.shares.items ≡ shares.now }
         ensures opened { IfOk result (λ r. (board_size r.0 ≡ size_of opening.now) × (r.0.shares.items ≡ shares.now) × IsPassOf r.0 r.1 × (whole r.1 ≡ first_whole (size_of opening.now))) }
         ensures room { IfOk result (λ r. IsBlank r.1 × (1 ≡ length shares.now → HasRoomFor shares.now r.1)) }
         ensures list { IfOk result (λ r. listed r.1 ≡ []) }
@@ -54,8 +54,7 @@ impl<H: Shape> Board<H> {
         let stored = words_room(alloc)?;
         let listed = list_room(alloc, opening.slots)?;
         let visits = visit_room(alloc, opening.slots)?;
-        let mut kept = Vec::new(alloc);
-        kept.extend_from_slice(shares)?;
+        let kept = copied(alloc, shares)?;
         let words = words_start(alloc, opening)?;
         let (table, seat) = Table::<bool, WholeView, Opening, WholeLaw<H>, Global>::of_words(
             alloc,
@@ -83,7 +82,7 @@ impl<H: Shape> Board<H> {
                 carried: None,
             },
             listed,
-            begun: true,
+            begun: false,
             visits,
             shape: PhantomData,
         };
@@ -133,7 +132,7 @@ impl<H: Shape> Board<H> {
                 carried: None,
             },
             listed: places,
-            begun: true,
+            begun: false,
             visits,
             shape: PhantomData,
         }
@@ -149,6 +148,7 @@ impl<H: Shape> Board<H> {
         requires may { MayOpen (IsSound H.form) (size_of opening.now) (opening_cells opening.now.starts.version) false [] }
         requires early { opening.now.starts.stamp ≤ last_stamp }
         requires shares { (length shares.now ≡ opening.now.seats) × (1 ≤ length shares.now) }
+        requires kept { opening.now.shares.items ≡ shares.now }
         ensures { IfOk result (λ r. (board_size r.0 ≡ size_of opening.now) × (r.0.shares.items ≡ shares.now) × AreOpened r.0 opening.now r.1.items) }
     {
         let mut passes = Vec::with_capacity(alloc, opening.seats)?;
@@ -217,15 +217,16 @@ impl<H: Shape> Board<H> {
 
     /// Ends the board, when the last pass has taken in all others and no install of its own stands: the words that are left
     /// are those of a closed board.
-    pub(crate) fn end(self, last: Pass<H>) -> (Closed<bool, Global>, Vec<Entry>)
+    pub(crate) fn end(self, last: Pass<H>) -> (Closed<bool, Global>, Vec<Entry>, Vec<Share>)
         requires pass { SitsAt self last × ((view last).last ≡ true) × ((view last).rest ≡ 0) }
         requires free { IsFree (view last) }
         ensures closed { IsWholeClosed H.form (board_size self) (knows last) (slots_items result.0.words) }
         ensures laid { IsFull result.0.words × (slots_len result.0.words ≡ words_of (board_size self)) × (slots_len result.0.slots ≡ 0) }
         ensures entries { result.1.items ≡ recorded last }
+        ensures shares { result.2 ≡ self.shares }
     {
-        let Board { table, .. } = self;
+        let Board { table, shares, .. } = self;
         let Pass { seat, records, .. } = last;
-        (table.close_with(seat), records.entries)
+        (table.close_with(seat), records.entries, shares)
     }
 }

@@ -10,6 +10,7 @@ ghost use Rattle.pc_words.specs.Words.{kind, IsWord};
 ghost use Rattle.pc_rule_law.specs.Board.{at_epoch, address};
 ghost use Rattle.pc_rule_law.specs.Plays.{SameSeat, IsWell};
 ghost use Rattle.pc_exchange_law.specs.Paths.{dropped, begun_path, ended_path, with_visit, with_read, with_stamp, MayCheck};
+ghost use Rattle.pc_exchange_law.specs.Slots.{IsHeld};
 ghost use Rattle.pc_exchange_law.specs.Ties.{last_stamp};
 ghost use Rattle.pc_exchange_law.specs.WholePlays.{CellSeen, ReadDrawn, PathChecked};
 ghost use Rattle.pc_rule.specs.Passes.{whole, view, knows, aim, visits, path, board_size, IsPassOf, StaysSeated, OnlyVisited, HasNode};
@@ -64,6 +65,7 @@ fn load_visit<H: Shape>(
     requires seat { (seat.old.table_id ≡ board.now.table.shared.table_id) × (seat.old.me.0.view.size ≡ board_size board.now) }
     requires open { (seat.old.me.0.view.live ≡ true) × (seat.old.me.0.path.begun ≡ true) }
     requires inside { HasNode board.now node }
+    requires held { IsHeld seat.old.me.0.knows node }
     ensures seat { (seat.new.table_id ≡ seat.old.table_id) × (seat.new.me.1 ≡ seat.old.me.1) × SameSeat seat.old.me.0.view seat.new.me.0.view × IsWell seat.new.me.0.view }
     ensures told { CellSeen seat.old.me.0 node Version result seat.new.me.0 }
     ensures path { seat.new.me.0.path ≡ with_visit (if first then dropped seat.old.me.0.path else seat.old.me.0.path) node (kind result) }
@@ -91,11 +93,13 @@ fn load_epoch<H: Shape>(board: &Board<H>, seat: &mut Seat<bool, WholeView>, begu
     }
 }
 
-/// A load of a node's version that counts as a visit, where it is plain, even, and below the last version. There is room for a visit of each node.
+/// A load of a node's version that counts as a visit, where it is plain, even, and below the last version. There is room for a visit of each node. The node
+/// is known to be in use.
 pub fn step_5_visit<H: Shape>(board: &Board<H>, pass: &mut Pass<H>, node: u32) -> u64
     requires pass { IsPassOf board.now pass.old }
     requires open { (path pass.old).begun ≡ true }
     requires inside { HasNode board.now node }
+    requires held { IsHeld (knows pass.old) node }
     requires room { length (visits pass.old) ≤ (board_size board.now).slots }
     ensures pass { StaysSeated pass.old pass.new }
     ensures told { CellSeen (whole pass.old) node Version result (whole pass.new) }
@@ -108,10 +112,12 @@ pub fn step_5_visit<H: Shape>(board: &Board<H>, pass: &mut Pass<H>, node: u32) -
     found
 }
 
-/// A load of a word of a node that counts as a read, where it is plain, no version, and the node was visited.
+/// A load of a word of a node that counts as a read, where it is plain, no version, and the node was visited. The node is known to
+/// be in use.
 pub fn step_5_read<H: Shape>(board: &Board<H>, pass: &mut Pass<H>, node: u32, field: Field) -> u64
     requires pass { IsPassOf board.now pass.old }
     requires inside { HasNode board.now node }
+    requires held { IsHeld (knows pass.old) node }
     ensures pass { StaysSeated pass.old pass.new }
     ensures told { CellSeen (whole pass.old) node field result (whole pass.new) }
     ensures path { path pass.new ≡ with_read (path pass.old) node field (kind result) }

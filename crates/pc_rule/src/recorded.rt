@@ -4,12 +4,21 @@ ghost use mathlib.Core.Option.{some};
 ghost use lib.ListN.{get_elem?};
 ghost use Rattle.pc_rule.specs.Passes.{view, path, share_of, recorded};
 ghost use Rattle.pc_rule.specs.Recorded.{calls_of};
-ghost use Rattle.pc_rule.specs.declared.share.Share.{Share as Part};
+ghost use Rattle.pc_rule_law.specs.declared.share.Share.{Share as Part};
 
 use crate::board::Pass;
-use crate::share::Share;
 use pc_model::{Entry, Shape};
+use pc_rule_law::Share;
 use std::alloc::{AllocError, Global};
+
+/// The same shares, on their own.
+pub(crate) fn copied(alloc: Global, shares: &[Share]) -> Result<Vec<Share>, AllocError>
+    ensures { IfOk result (λ r. r.items ≡ shares.now) }
+{
+    let mut kept = Vec::new(alloc);
+    kept.extend_from_slice(shares)?;
+    Ok(kept)
+}
 
 /// For how many calls these shares have room.
 fn all_calls(shares: &[Share]) -> usize
@@ -91,7 +100,7 @@ impl<H: Shape> Pass<H> {
         0
     }
 
-    /// Whether it is at rest: it has begun no operation, or ended the last one. A pass comes with one begun, for now.
+    /// Whether it is at rest: it has begun no operation, or ended the last one.
     pub fn at_rest(&self) -> bool
         ensures { result ≡ not (path self.now).begun }
     {

@@ -4,6 +4,7 @@ ghost use Rattle.std.specs.Prelude.{◌≡◌, ◌-◌, ◌<◌};
 ghost use Rattle.pc_rule_law.specs.Conditions.{CanStore};
 ghost use Rattle.pc_rule_law.specs.Plays.{after_store, InstallLoaded, InstallTried, StatusLoaded, InstallTaken};
 ghost use Rattle.pc_exchange_law.specs.Knowing.{StatusSeen};
+ghost use Rattle.pc_exchange_law.specs.Slots.{IsHeld};
 ghost use Rattle.pc_exchange_law.specs.WholePlays.{CellSeen, IsNotCleared, OldDiffers, OwnVerdict, WordSwapped};
 ghost use Rattle.pc_rule.specs.Conditions.{MayPlaceInstall, MayTakeInstall};
 ghost use Rattle.pc_rule.specs.Passes.{whole, view, knows, aim, board_size, IsPassOf, IsSamePass, HasNode, HasPass};
@@ -49,10 +50,11 @@ pub fn step_4<H: Shape>(board: &Board<H>, pass: &mut Pass<H>, of: u32, place: u3
 }
 
 /// A load of a word of a node. What stands there is noted: a version, an install, or a reference that is held; and that it is
-/// clean of the own attempt, where that shows.
+/// clean of the own attempt, where that shows; and that the node which a link names is in use. The node is known to be in use.
 pub fn step_5<H: Shape>(board: &Board<H>, pass: &mut Pass<H>, node: u32, field: Field) -> u64
     requires pass { IsPassOf board.now pass.old }
     requires inside { HasNode board.now node }
+    requires held { IsHeld (knows pass.old) node }
     ensures pass { IsSamePass pass.old pass.new }
     ensures told { CellSeen (whole pass.old) node field result (whole pass.new) }
 {

@@ -19,22 +19,22 @@ pub open-requires-clause-early : goal.open-requires-clause-early
 open-requires-clause-early g c = λ _ _. let lt = c.requires.starts.stamp in omega arith
 
 pub returns-clause-passes : goal.returns-clause-passes
-returns-clause-passes g c = let e = c.in-Ok.ensures in let o : Opening = (record { seats = length c.args.shares.now; slots = c.all_slots.result; starts = c.args.starts; given = c.new.result; posted = false }) in all_opened c.in-Ok.made.0 o c.in-Ok.made.1.items e.2 (let one = c.requires.shares.0 in omega arith) e.0 (ap length e.1)
+returns-clause-passes g c = let e = c.in-Ok-open.ensures in let o : Opening = (record { seats = length c.args.shares.now; slots = c.all_slots.result; shares = c.in-Ok.own; starts = c.args.starts; given = c.new.result; posted = false }) in all_opened c.in-Ok-open.made.0 o c.in-Ok-open.made.1.items e.2 (let one = c.requires.shares.0 in omega arith) e.0 (ap length e.1)
 
 pub returns-clause-notes : goal.returns-clause-notes
-returns-clause-notes g c = let e = c.in-Ok.ensures in let o : Opening = (record { seats = length c.args.shares.now; slots = c.all_slots.result; starts = c.args.starts; given = c.new.result; posted = false }) in none_noted c.in-Ok.made.0 o c.in-Ok.made.1.items e.2
+returns-clause-notes g c = let e = c.in-Ok-open.ensures in let o : Opening = (record { seats = length c.args.shares.now; slots = c.all_slots.result; shares = c.in-Ok.own; starts = c.args.starts; given = c.new.result; posted = false }) in none_noted c.in-Ok-open.made.0 o c.in-Ok-open.made.1.items e.2
 
 pub returns-clause-knows : goal.returns-clause-knows
-returns-clause-knows g c = let e = c.in-Ok.ensures in let o : Opening = (record { seats = length c.args.shares.now; slots = c.all_slots.result; starts = c.args.starts; given = c.new.result; posted = false }) in none_known c.in-Ok.made.0 o c.in-Ok.made.1.items e.2
+returns-clause-knows g c = let e = c.in-Ok-open.ensures in let o : Opening = (record { seats = length c.args.shares.now; slots = c.all_slots.result; shares = c.in-Ok.own; starts = c.args.starts; given = c.new.result; posted = false }) in none_known c.in-Ok-open.made.0 o c.in-Ok-open.made.1.items e.2
 
 pub returns-clause-shares : goal.returns-clause-shares
-returns-clause-shares g c = let e = c.in-Ok.ensures in let o : Opening = (record { seats = length c.args.shares.now; slots = c.all_slots.result; starts = c.args.starts; given = c.new.result; posted = false }) in all_shared c.in-Ok.made.0 o c.in-Ok.made.1.items e.2 c.args.shares.now e.1
+returns-clause-shares g c = let e = c.in-Ok-open.ensures in let o : Opening = (record { seats = length c.args.shares.now; slots = c.all_slots.result; shares = c.in-Ok.own; starts = c.args.starts; given = c.new.result; posted = false }) in all_shared c.in-Ok-open.made.0 o c.in-Ok-open.made.1.items e.2 c.args.shares.now e.1
 
 pub returns-clause-tried : goal.returns-clause-tried
-returns-clause-tried g c = let e = c.in-Ok.ensures in let o : Opening = (record { seats = length c.args.shares.now; slots = c.all_slots.result; starts = c.args.starts; given = c.new.result; posted = false }) in none_tried c.in-Ok.made.0 o c.in-Ok.made.1.items e.2 e.0
+returns-clause-tried g c = let e = c.in-Ok-open.ensures in let o : Opening = (record { seats = length c.args.shares.now; slots = c.all_slots.result; shares = c.in-Ok.own; starts = c.args.starts; given = c.new.result; posted = false }) in none_tried c.in-Ok-open.made.0 o c.in-Ok-open.made.1.items e.2 e.0
 
 pub returns-clause-installed : goal.returns-clause-installed
-returns-clause-installed g c = let e = c.in-Ok.ensures in let o : Opening = (record { seats = length c.args.shares.now; slots = c.all_slots.result; starts = c.args.starts; given = c.new.result; posted = false }) in none_installed c.in-Ok.made.0 o c.in-Ok.made.1.items e.2 e.0
+returns-clause-installed g c = let e = c.in-Ok-open.ensures in let o : Opening = (record { seats = length c.args.shares.now; slots = c.all_slots.result; shares = c.in-Ok.own; starts = c.args.starts; given = c.new.result; posted = false }) in none_installed c.in-Ok-open.made.0 o c.in-Ok-open.made.1.items e.2 e.0
 
 pub returns-clause-visited : goal.returns-clause-visited
-returns-clause-visited g c = let e = c.in-Ok.ensures in let o : Opening = (record { seats = length c.args.shares.now; slots = c.all_slots.result; starts = c.args.starts; given = c.new.result; posted = false }) in none_visited c.in-Ok.made.0 o c.in-Ok.made.1.items e.2
+returns-clause-visited g c = let e = c.in-Ok-open.ensures in let o : Opening = (record { seats = length c.args.shares.now; slots = c.all_slots.result; shares = c.in-Ok.own; starts = c.args.starts; given = c.new.result; posted = false }) in none_visited c.in-Ok-open.made.0 o c.in-Ok-open.made.1.items e.2

@@ -48,17 +48,17 @@ end-table-requires-clause-free g c = λ _ _. let b = c.args.board in
     subst IsFree (sym c.take_all.ensures.pass.1) (each_last c.args.passes.items c.pop.new.self.items c.in-Some.last (λ i p. IsPassOf b p × ((view p).seat ≡ i) × IsFree (view p)) c.in-Some.ensures.items c.requires.passes.order).2
 
 pub returns-clause-installs : goal.returns-clause-installs
-returns-clause-installs g c = none_stand c.args.board g.H.Shape.form _ _ c.end-table.ensures.closed
+returns-clause-installs g c = none_stand c.args.board g.H.Shape.form _ _ c.end-table.ensures.closed _ (ap (λ v. v.items) c.end-table.ensures.shares)
 
 pub returns-clause-cells : goal.returns-clause-cells
-returns-clause-cells g c = let front = c.pop.new.self.items in run_left _ c.args.board _ _ refl (same_size c.args.board) c.end-table.ensures.closed c.args.passes.items
+returns-clause-cells g c = let front = c.pop.new.self.items in run_left _ c.args.board _ _ refl (same_size c.args.board _ (ap (λ v. v.items) c.end-table.ensures.shares)) c.end-table.ensures.closed c.args.passes.items
     (ap told_by c.in-Some.ensures.items ∙ (told_last front c.in-Some.last ∙ sym c.take_all.ensures.told))
 
 pub invariant_of-result : goal.invariant_of-result
 invariant_of-result g c = let e = c.end-table.ensures in let b = c.args.board in record {
   small = b.small;
-  laid = (e.laid.0, e.laid.1 ∙ ap words_of (sym (same_size b)), e.laid.2);
-  closed = ∣ closed_stands b g.H.Shape.form _ _ e.closed ∣₁;
+  laid = (e.laid.0, e.laid.1 ∙ ap words_of (sym (same_size b _ (ap (λ v. v.items) e.shares))), e.laid.2);
+  closed = ∣ closed_stands b g.H.Shape.form _ _ e.closed _ (ap (λ v. v.items) e.shares) ∣₁;
 }
 
 pub returns-clause-history : goal.returns-clause-history

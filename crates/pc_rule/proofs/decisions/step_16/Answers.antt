@@ -24,7 +24,7 @@ store-requires g c = let x : Whole = c.args.pass.now.seat.me.0 in let v : View =
 pub invariant_of-pass : goal.invariant_of-pass
 invariant_of-pass g c = let x : Whole = c.args.pass.now.seat.me.0 in let v : View = x.view in let z : Size = size_of c.args.board.now.table.shared.key in let p : Place = at_own v.seat own_status in let inside : Inside z p = (c.requires.pass.2, tt) in
     let t = c.store.ensures.2 in let y : Whole = c.store.new.seat.me.0 in
-    let told = told_at v z c.word_of-word.result (HasCleared x c.store.new.seat.me.0) p c.requires.pass.1 c.store.ensures.2.2 inside c.word_of-word.ensures refl in
+    let told = told_at v z c.word_of-word.result (HasCleared x c.store.new.seat.me.0) p c.requires.pass.1 c.store.ensures.2.2 inside c.word_of-word.ensures refl c.requires.may.1.stage c.requires.may.1.decided in
     record {
       live = t.1.0 ∙ c.args.pass.now.live;
       numbered = t.1.1 ∙ c.args.pass.now.numbered;
@@ -50,5 +50,5 @@ returns-clause-told g c = let x : Whole = c.args.pass.now.seat.me.0 in let v : V
 pub returns-clause-pass : goal.returns-clause-pass
 returns-clause-pass g c = let x : Whole = c.args.pass.now.seat.me.0 in let v : View = x.view in let z : Size = size_of c.args.board.now.table.shared.key in let p : Place = at_own v.seat own_status in let inside : Inside z p = (c.requires.pass.2, tt) in
     let t = c.store.ensures.2 in let y : Whole = c.store.new.seat.me.0 in
-    let told = told_at v z c.word_of-word.result (HasCleared x c.store.new.seat.me.0) p c.requires.pass.1 c.store.ensures.2.2 inside c.word_of-word.ensures refl in
+    let told = told_at v z c.word_of-word.result (HasCleared x c.store.new.seat.me.0) p c.requires.pass.1 c.store.ensures.2.2 inside c.word_of-word.ensures refl c.requires.may.1.stage c.requires.may.1.decided in
     (search rules, refl, (ap (λ (u : Whole). u.path) told, refl))

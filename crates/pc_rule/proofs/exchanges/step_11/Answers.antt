@@ -1,9 +1,11 @@
 -- The step's lemma, at the address of the word.
-use Rattle.std.proofs.Common.{◌+◌, refl, sym, ap, ◌∙◌, subst, rules, vec_capacity}
+use Rattle.std.proofs.Common.{◌+◌, refl, sym, ap, ◌∙◌, subst, rules, vec_capacity, ◌≡◌, true, false, Option, Some, None}
 use Rattle.pc_rule_law.specs.Board.{Size, Place, at_own, own_status, Inside}
 use Rattle.pc_rule_law.specs.Views.{View}
 use Rattle.pc_rule_law.specs.Tables.{size_of}
 use Rattle.pc_rule_law.proofs.Places.{within}
+use Rattle.pc_model.specs.Exchanges.{FreshNode}
+use Rattle.pc_exchange_law.specs.OwnSlots.{makes_one}
 use Rattle.pc_exchange_law.specs.WholePlays.{HasPublished}
 use Rattle.pc_exchange_law.specs.Wholes.{Whole}
 use Rattle.pc_exchange_law.proofs.WholeStores.{whole_publish}
@@ -14,17 +16,22 @@ use Rattle.pc_rule.proofs.Telling.{told_at}
 use Rattle.pc_rule.proofs.Walking.{path_still}
 use Rattle.pc_rule.proofs.exchanges.step_11.Goals as goal
 
+-- an attempt that makes none
+makes_none : (f : Option FreshNode) → makes_one f ≡ false → f ≡ None
+makes_none None is = refl
+makes_none (Some g) is = absurd (let clash : true ≡ false = is in cc)
+
 pub store-requires : goal.store-requires
 store-requires g c = let x : Whole = c.args.pass.now.seat.me.0 in let v : View = x.view in let z : Size = size_of c.args.board.now.table.shared.key in let p : Place = at_own v.seat own_status in let inside : Inside z p = (c.requires.pass.2, tt) in (
   c.requires.pass.0,
   rw (c.word_of-word.ensures, c.args.board.now.wide.0) (within z p inside),
-  rw (c.word_of-word.ensures, c.requires.may.3) (whole_publish g.H.Shape.form z _ _ c.args.pass.now.seat.me c.requires.may.0 c.requires.may.1 c.requires.may.2 c.requires.pass.1 c.args.pass.now.live c.requires.may.4 inside),
+  rw (c.word_of-word.ensures, c.requires.may.3) (whole_publish g.H.Shape.form z _ _ c.args.pass.now.seat.me c.requires.may.0 c.requires.may.1 c.requires.may.2 c.requires.pass.1 c.args.pass.now.live c.requires.may.5 (ap makes_one c.requires.may.4) inside),
 )
 
 pub invariant_of-pass : goal.invariant_of-pass
 invariant_of-pass g c = let x : Whole = c.args.pass.now.seat.me.0 in let v : View = x.view in let z : Size = size_of c.args.board.now.table.shared.key in let p : Place = at_own v.seat own_status in let inside : Inside z p = (c.requires.pass.2, tt) in
     let t = c.store.ensures.2 in let y : Whole = c.store.new.seat.me.0 in
-    let told = told_at v z c.word_of-word.result (HasPublished x c.store.new.seat.me.0) p c.requires.pass.1 c.store.ensures.2.2 inside c.word_of-word.ensures refl in let is = told.4 in
+    let told = told_at v z c.word_of-word.result (HasPublished false x c.store.new.seat.me.0) p c.requires.pass.1 c.store.ensures.2.2 inside c.word_of-word.ensures refl in let is = told.4 in
     record {
       live = t.1.0 ∙ c.args.pass.now.live;
       numbered = t.1.1 ∙ c.args.pass.now.numbered;
@@ -45,18 +52,18 @@ invariant_of-pass g c = let x : Whole = c.args.pass.now.seat.me.0 in let v : Vie
 
 pub returns-clause-told : goal.returns-clause-told
 returns-clause-told g c = let x : Whole = c.args.pass.now.seat.me.0 in let v : View = x.view in let z : Size = size_of c.args.board.now.table.shared.key in let p : Place = at_own v.seat own_status in let inside : Inside z p = (c.requires.pass.2, tt) in let y : Whole = c.store.new.seat.me.0 in
-    let told = told_at v z c.word_of-word.result (HasPublished x c.store.new.seat.me.0) p c.requires.pass.1 c.store.ensures.2.2 inside c.word_of-word.ensures refl in ap (λ (u : Whole). u.view) told.4
+    let told = told_at v z c.word_of-word.result (HasPublished false x c.store.new.seat.me.0) p c.requires.pass.1 c.store.ensures.2.2 inside c.word_of-word.ensures refl in ap (λ (u : Whole). u.view) told.4
 
 pub returns-clause-learnt : goal.returns-clause-learnt
 returns-clause-learnt g c = let x : Whole = c.args.pass.now.seat.me.0 in let v : View = x.view in let z : Size = size_of c.args.board.now.table.shared.key in let p : Place = at_own v.seat own_status in let inside : Inside z p = (c.requires.pass.2, tt) in let y : Whole = c.store.new.seat.me.0 in
-    let told = told_at v z c.word_of-word.result (HasPublished x c.store.new.seat.me.0) p c.requires.pass.1 c.store.ensures.2.2 inside c.word_of-word.ensures refl in (told.0, told.1, told.2, told.3, ap (λ (u : Whole). u.knows) told.4, told.5, told.6)
+    let told = told_at v z c.word_of-word.result (HasPublished false x c.store.new.seat.me.0) p c.requires.pass.1 c.store.ensures.2.2 inside c.word_of-word.ensures refl in (told.0, told.1, told.2, told.3, ap (λ (u : Whole). u.knows) told.4, told.5, told.6, makes_none told.0.fresh told.8)
 
 pub returns-clause-aim : goal.returns-clause-aim
 returns-clause-aim g c = let x : Whole = c.args.pass.now.seat.me.0 in let v : View = x.view in let z : Size = size_of c.args.board.now.table.shared.key in let p : Place = at_own v.seat own_status in let inside : Inside z p = (c.requires.pass.2, tt) in let y : Whole = c.store.new.seat.me.0 in
-    let told = told_at v z c.word_of-word.result (HasPublished x c.store.new.seat.me.0) p c.requires.pass.1 c.store.ensures.2.2 inside c.word_of-word.ensures refl in ap (λ (u : Whole). u.aim) told.4
+    let told = told_at v z c.word_of-word.result (HasPublished false x c.store.new.seat.me.0) p c.requires.pass.1 c.store.ensures.2.2 inside c.word_of-word.ensures refl in ap (λ (u : Whole). u.aim) told.4
 
 pub returns-clause-pass : goal.returns-clause-pass
 returns-clause-pass g c = let x : Whole = c.args.pass.now.seat.me.0 in let v : View = x.view in let z : Size = size_of c.args.board.now.table.shared.key in let p : Place = at_own v.seat own_status in let inside : Inside z p = (c.requires.pass.2, tt) in
     let t = c.store.ensures.2 in let y : Whole = c.store.new.seat.me.0 in
-    let told = told_at v z c.word_of-word.result (HasPublished x c.store.new.seat.me.0) p c.requires.pass.1 c.store.ensures.2.2 inside c.word_of-word.ensures refl in let is = told.4 in
+    let told = told_at v z c.word_of-word.result (HasPublished false x c.store.new.seat.me.0) p c.requires.pass.1 c.store.ensures.2.2 inside c.word_of-word.ensures refl in let is = told.4 in
     (search rules, refl, (ap (λ (u : Whole). u.path) told.4, refl))

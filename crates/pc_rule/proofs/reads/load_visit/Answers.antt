@@ -17,7 +17,7 @@ pub load-requires : goal.load-requires
 load-requires g c = let x : Whole = c.args.seat.now.me.0 in let v : View = x.view in let z : Size = size_of c.args.board.now.table.shared.key in let p : Place = at_cell c.args.node Version in let inside : Inside z p = c.requires.inside in (
   c.requires.seat.0,
   rw (c.cell_word-word.ensures, c.args.board.now.wide.0) (within z p inside),
-  rw c.cell_word-word.ensures (whole_first_visit g.H.Shape.form z _ _ c.args.seat.now.me c.args.node c.requires.seat.1 c.requires.open.0 c.requires.open.1 inside),
+  rw c.cell_word-word.ensures (whole_first_visit g.H.Shape.form z _ _ c.args.seat.now.me c.args.node c.requires.seat.1 c.requires.open.0 c.requires.open.1 c.requires.held inside),
 )
 
 pub returns-then-first-clause-told : goal.returns-then-first-clause-told
@@ -33,7 +33,7 @@ pub load-requires-else-first : goal.load-requires-else-first
 load-requires-else-first g c = let x : Whole = c.args.seat.now.me.0 in let v : View = x.view in let z : Size = size_of c.args.board.now.table.shared.key in let p : Place = at_cell c.args.node Version in let inside : Inside z p = c.requires.inside in (
   c.requires.seat.0,
   rw (c.cell_word-word.ensures, c.args.board.now.wide.0) (within z p inside),
-  rw c.cell_word-word.ensures (whole_visit g.H.Shape.form z _ _ c.args.seat.now.me c.args.node c.requires.seat.1 c.requires.open.0 c.requires.open.1 inside),
+  rw c.cell_word-word.ensures (whole_visit g.H.Shape.form z _ _ c.args.seat.now.me c.args.node c.requires.seat.1 c.requires.open.0 c.requires.open.1 c.requires.held inside),
 )
 
 pub returns-else-first-clause-told : goal.returns-else-first-clause-told

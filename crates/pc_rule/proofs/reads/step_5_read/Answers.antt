@@ -22,7 +22,7 @@ pub load-requires : goal.load-requires
 load-requires g c = let x : Whole = c.args.pass.now.seat.me.0 in let v : View = x.view in let z : Size = size_of c.args.board.now.table.shared.key in let p : Place = at_cell c.args.node c.args.field in let inside : Inside z p = c.requires.inside in (
   c.requires.pass.0,
   rw (c.cell_word-word.ensures, c.args.board.now.wide.0) (within z p inside),
-  rw c.cell_word-word.ensures (whole_read g.H.Shape.form z _ _ c.args.pass.now.seat.me c.args.node c.args.field c.requires.pass.1 c.args.pass.now.live inside),
+  rw c.cell_word-word.ensures (whole_read g.H.Shape.form z _ _ c.args.pass.now.seat.me c.args.node c.args.field c.requires.pass.1 c.args.pass.now.live c.requires.held inside),
 )
 
 pub invariant_of-pass : goal.invariant_of-pass

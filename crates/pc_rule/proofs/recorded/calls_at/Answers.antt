@@ -1,6 +1,6 @@
 use Rattle.std.proofs.Common.{◌≡◌, sym, ap, ◌∙◌, arith}
 use mathlib.Core.Option.{some-injective}
-use Rattle.pc_rule.specs.declared.share.Share.{Share as Part}
+use Rattle.pc_rule_law.specs.declared.share.Share.{Share as Part}
 use Rattle.pc_rule.proofs.Rooms.{one_of_all}
 use Rattle.pc_rule.proofs.Starting.{element}
 use Rattle.pc_rule.proofs.recorded.calls_at.Goals as goal

@@ -8,7 +8,7 @@ use Rattle.pc_rule_law.specs.Tables.{size_of}
 use Rattle.pc_exchange_law.specs.Wholes.{Whole}
 use Rattle.pc_exchange_law.specs.WholeSeats.{first_whole}
 use Rattle.pc_exchange_law.proofs.WholeOpenings.{whole_opening_holds}
-use Rattle.pc_rule.specs.declared.share.Share.{Share}
+use Rattle.pc_rule_law.specs.declared.share.Share.{Share}
 use Rattle.pc_rule.proofs.Listing.{none_listed}
 use Rattle.pc_rule.proofs.Starting.{element}
 use Rattle.pc_rule.proofs.Walking.{new_holds}
@@ -20,12 +20,12 @@ use Rattle.pc_rule.proofs.board.Board.first.Goals as goal
 pub of_words-requires : goal.of_words-requires
 of_words-requires g c = let o = c.args.opening.now in let z : Size = size_of o in
     let represents : Represents z c.as_slice.result.now (starting_board o) = subst (λ (l : List ℕ). Represents z l (starting_board o)) (sym c.as_slice.ensures.value) c.in_ok-words.ensures in
-    whole_opening_holds g.H.Shape.form z c.as_slice.result.now (λ slots cells sound. (g.H.Shape.laws.linked slots cells sound).sentinel) c.requires.may c.requires.early represents
+    whole_opening_holds g.H.Shape.form z c.as_slice.result.now (λ slots cells sound. g.H.Shape.laws.linked slots cells sound) c.requires.may c.requires.early represents
 
 pub returns-clause-opened : goal.returns-clause-opened
 returns-clause-opened g c = let o = c.args.opening.now in let z : Size = size_of o in
     let made = c.in_ok-table.ensures in let key = made.5 in
-    let kept : c.extend_from_slice.new.self.items ≡ c.args.shares.now = search rules in
+    let kept : c.in_ok-kept.kept.items ≡ c.args.shares.now = c.in_ok-kept.ensures in
     let is : c.in_ok-table.seat.me.0 ≡ first_whole z = ap (λ m. m.0) made.4 in
     let seat : c.in_ok-table.seat.me.0.view.seat ≡ 0 = ap (λ (x : Whole). x.view.seat) is in
     let well : IsWell (first_whole z).view = λ _ x has. absurd (some-ne-none x (sym has.1)) in (
@@ -36,7 +36,7 @@ returns-clause-opened g c = let o = c.args.opening.now in let z : Size = size_of
         ap (λ (x : Whole). x.view.size) is ∙ ap size_of (sym key),
         subst (λ (i : ℕ × ℕ). i.0 < i.1) (λ t. (sym seat t, sym (ap (λ (k : Opening). k.seats) key) t)) c.requires.may.seats.0,
         subst (λ (x : Whole). IsWell x.view) (sym is) well,
-        subst (λ (n : ℕ). get_elem? c.extend_from_slice.new.self.items n ≡ some (get_or c.args.shares.now 0 (record { slots = 0; calls = 0 }))) (sym seat)
+        subst (λ (n : ℕ). get_elem? c.in_ok-kept.kept.items n ≡ some (get_or c.args.shares.now 0 (record { slots = 0; calls = 0 }))) (sym seat)
             (subst (λ (l : List Share). get_elem? l 0 ≡ some (get_or c.args.shares.now 0 (record { slots = 0; calls = 0 }))) (sym kept) (element c.args.shares.now 0 (record { slots = 0; calls = 0 }) (let one = c.requires.shares.1 in omega arith))),
         (let none : c.in_ok-entries.entries.items ≡ [] = c.in_ok-entries.ensures.none in let n : length c.in_ok-entries.entries.items ≡ 0 = ap length none in omega arith),
       ),
