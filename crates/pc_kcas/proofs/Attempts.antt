@@ -9,7 +9,7 @@ use mathlib.Core.Option.{some, some-injective, some-ne-none}
 use lib.ListN.{get_elem?}
 use Rattle.pc_model.specs.declared.cell.Field.{Field}
 use Rattle.pc_model.specs.declared.cell.Field.TheVariants.{Version}
-use Rattle.pc_model.specs.Cells.{IsNode}
+use Rattle.pc_model.specs.Cells.{IsNode, IsEven}
 use Rattle.pc_model.specs.Forms.{Form, Fits}
 use Rattle.pc_model.specs.Exchanges.{Changed, Visited, Seen}
 use Rattle.pc_words.specs.declared.status.Stage.TheVariants.{Undecided}
@@ -19,13 +19,16 @@ use Rattle.pc_rule_law.specs.Conditions.{IsFree, CanWrite, KnowsWord, KnowsChang
 use Rattle.pc_rule_law.specs.Past.{Has, Attempt, Describes, IsFormed, visits_begin}
 use Rattle.pc_rule_law.specs.Plays.{after_publish}
 use Rattle.pc_rule_law.specs.Views.{Note, View, clock_at, removed, word_in, with_notes}
-use Rattle.pc_rule_law.proofs.Lists.{below_length, has_later, none_has}
+use Rattle.pc_rule_law.proofs.Lists.{below_length, has_later}
+use Rattle.pc_history.specs.Footprints.{IsAmong}
+use Rattle.pc_protocol.specs.Links.{MarksAlone}
 use Rattle.pc_protocol.specs.Notes.{Note as ToldNote, clock_was}
 use Rattle.pc_exchange_law.specs.Attempts.{word_in as known_word_in}
 use Rattle.pc_exchange_law.specs.Changes.{RaisesNodes}
 use Rattle.pc_exchange_law.specs.ExchangeConditions.{KnowsOld, KnowsBasis, GoesByPath}
 use Rattle.pc_exchange_law.specs.Knowing.{IsAboveSeen}
 use Rattle.pc_exchange_law.specs.Passes.{PassKnows}
+use Rattle.pc_exchange_law.specs.Slots.{IsHeldOrVisited}
 use Rattle.pc_exchange_law.specs.Ties.{exchange_of}
 use Rattle.pc_exchange_law.specs.Wholes.{Whole}
 use Rattle.pc_exchange_law.proofs.ChangeLists.{among_has, has_among}
@@ -40,8 +43,8 @@ use Rattle.pc_rule.specs.Starting.{change_of}
 use Rattle.pc_rule.proofs.Calls.{read_at}
 use Rattle.pc_rule.proofs.Sharing.{from_map}
 use Rattle.pc_dcss.specs.Installs.{KnowsPlace}
-use Rattle.pc_kcas.specs.Exchanges.{ListsTo, OnlyPublished, HasPublished, attempt_with}
-use Rattle.pc_kcas.proofs.Locks.{old_still, RaisesOrLocks, AllRaiseOrLock, KnowsItsOld, AllKnown}
+use Rattle.pc_kcas.specs.Exchanges.{IsOneWord, ListsTo, OnlyPublished, HasPublished, attempt_with}
+use Rattle.pc_kcas.proofs.Locks.{old_still, RaisesOrLocks, AllRaiseOrLock, KnowsItsOld, AllKnown, AllTouched}
 
 pub listed_as : (places : List Place) (i : ℕ) (p : Place) → get_elem? places i ≡ some p → get_elem? (map change_of places) i ≡ some (change_of p)
 listed_as [] i p at = absurd (some-ne-none p (sym at))
@@ -122,7 +125,7 @@ raises_nodes m visits reads old new same raises a among = let has = among_has (m
       change = change_of v;
       among = has_among (map change_of new) (change_of v) (there.0, listed_as new there.0 v there.1);
       is_of = (r.2 ∙ node, r.3);
-      rises = ⊎_elim (λ rises. inl rises) (λ locks. inr (
+      rises = ⊎_elim (λ rises. inl rises.0) (λ locks. inr (
         locks.0,
         λ b other at. let here = among_has (map change_of new) b other in
             let q = from_map change_of new here.0 b here.1 in
@@ -130,6 +133,26 @@ raises_nodes m visits reads old new same raises a among = let has = among_has (m
             ∙ locks.1 q.0 (has_before old new same q.0 (here.0, q.1)) (ap (λ (c : Changed). c.node) q.2 ∙ (at ∙ sym node)),
       )) r.4;
     }
+
+-- a word that marks its node is its one word
+marks_alone : (m : ℕ) (visits : List Visited) (reads : List Seen) (old new : List Place) → IsPermutation old new → AllRaiseOrLock old
+    → MarksAlone (exchange_of (attempt_with m visits reads (map change_of new)))
+unfolding has_before
+marks_alone m visits reads old new same raises a b among other version odd node = let has = among_has (map change_of new) a among in let p = from_map change_of new has.0 a has.1 in
+    let r : RaisesOrLocks old p.0 = raises p.0 (has_before old new same p.0 (has.0, p.1)) in
+    let here = among_has (map change_of new) b other in let q = from_map change_of new here.0 b here.1 in
+    let only : IsOneWord old p.0.node → b.field ≡ Version = λ one. sym (ap (λ (c : Changed). c.field) q.2)
+    ∙ one q.0 (has_before old new same q.0 (here.0, q.1)) (ap (λ (c : Changed). c.node) q.2 ∙ (node ∙ sym (ap (λ (c : Changed). c.node) p.2))) in ⊎_elim
+    (λ rises. ⊎_elim (λ even. let new_is_even : IsEven a.new = subst (λ (c : Changed). IsEven c.new) p.2 even in absurd (omega arith)) only
+    (rises.1 (ap (λ (c : Changed). c.field) p.2 ∙ version)))
+    (λ locks. only locks.1) r.4
+
+-- its nodes are known to be in use, or were visited
+touches_held : (m : ℕ) (visits : List Visited) (reads : List Seen) (k : PassKnows) (seen : List Visited) (old new : List Place) → IsPermutation old new
+    → AllTouched k seen old → (a : Changed) → IsAmong a (attempt_with m visits reads (map change_of new)).changes → IsHeldOrVisited k seen a.node
+unfolding has_before
+touches_held m visits reads k seen old new same touched a among = let has = among_has (map change_of new) a among in let p = from_map change_of new has.0 a has.1 in
+    subst (λ (c : Changed). IsHeldOrVisited k seen c.node) p.2 (touched p.0 (has_before old new same p.0 (has.0, p.1)))
 
 -- the old numbers are known in each order of the words
 pub known_basis : (m : ℕ) (visits : List Visited) (reads : List Seen) (z : Size) (k k' : PassKnows) (old new : List Place) → ((m : ToldNote) → Has k.told m → Has k'.told m) → IsPermutation old new
@@ -152,11 +175,11 @@ known_basis m visits reads z k k' old new more same known a among = let has = am
 pub may_publish : (form : Form) (z : Size) (x : Whole) (k : PassKnows) (mode : ℕ) (visits : List Visited) (reads : List Seen) (old new : List Place) (c status : ℕ)
     → AgreeOnAttempt x → CanWrite x.view → x.view.size ≡ z → x.view.attempt.number + 1 < 2 ^ 28 → AreListed x.view.size.slots new → IsPermutation old new → AllRaiseOrLock old
     → ((ordered : List Place) → IsPermutation old ordered → (keys : List ℕ) × Fits form x.view.size.slots (exchange_of (attempt_with 0 visits reads (map change_of ordered))) keys)
-    → AllKnown z k old → ((m : ToldNote) → Has k.told m → Has x.knows.told m) → Has x.knows.told (clock_was c) → IsAboveSeen x.knows.told c
+    → AllKnown z k old → AllTouched x.knows x.path.visits old → ((m : ToldNote) → Has k.told m → Has x.knows.told m) → Has x.knows.told (clock_was c) → IsAboveSeen x.knows.told c
     → (length visits ≤ x.view.size.slots + 1) × ((u : Visited) → Has visits u → IsNode x.view.size.slots u.node × (u.version < 2 ^ 62))
     → Describes x.view.size.slots (attempt_with mode visits reads (map change_of new)) (word_in x.view.attempt.words)
     → GoesByPath x.knows x.path c (attempt_with mode visits reads (map change_of new)) → status ≡ packed (record { number = x.view.attempt.number + 1; stage = Undecided }) → MayPublish form z x status
-may_publish form z x k mode visits reads old new c status agree may sized lt all same raises fit known more clock above inside so goes is =
+may_publish form z x k mode visits reads old new c status agree may sized lt all same raises fit known touched more clock above inside so goes is =
     let e : Attempt = attempt_with mode visits reads (map change_of new) in
     let slots : x.view.size.slots ≡ z.slots = ap (λ (y : Size). y.slots) sized in
     let fits = fit new same in (
@@ -164,6 +187,7 @@ may_publish form z x k mode visits reads old new c status agree may sized lt all
       c,
       fits.0,
       is ∙ ap (λ (n : ℕ). packed (record { number = n + 1; stage = Undecided })) (sym agree.number),
+      refl,
       record {
         rests = agree.busy ∙ may.1;
         room = subst (λ (n : ℕ). n + 1 < 2 ^ 28) (sym agree.number) lt;
@@ -171,6 +195,9 @@ may_publish form z x k mode visits reads old new c status agree may sized lt all
         above = above;
         formed = subst (λ (s : ℕ). IsFormed s e) slots (formed x.view.size.slots new all mode visits reads inside.0 inside.1);
         raises = raises_nodes mode visits reads old new same raises;
+        marks = marks_alone mode visits reads old new same raises;
+        touches = touches_held mode visits reads x.knows x.path.visits old new same touched;
+        makes = tt;
         seen = goes;
         described = subst (λ (l : List (ℕ × ℕ)). Describes z.slots e (known_word_in l)) (sym agree.words)
             (describes_too z.slots e x.view.attempt.words (subst (λ (s : ℕ). Describes s e (word_in x.view.attempt.words)) slots so));

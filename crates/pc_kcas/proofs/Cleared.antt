@@ -21,8 +21,9 @@ use Rattle.pc_rule_law.proofs.WordKinds.{install_not_exchange}
 use Rattle.pc_protocol.specs.Histories.{Stage, absent, undecided, committed, aborted, value_by}
 use Rattle.pc_protocol.specs.Notes.{verdict}
 use Rattle.pc_exchange_law.specs.Attempts.{KnowsWord, KnowsEntry, KnowsPlaces, calm_but, word_in as known_word_in}
+use Rattle.pc_exchange_law.specs.Knowing.{after_clearing}
 use Rattle.pc_exchange_law.specs.Ties.{code}
-use Rattle.pc_exchange_law.specs.WholePlays.{CellSeen, ReferenceTaken}
+use Rattle.pc_exchange_law.specs.WholePlays.{CellSeen, ReferenceTaken, after_clear}
 use Rattle.pc_exchange_law.specs.Wholes.{Whole}
 use Rattle.pc_rule.specs.Attempts.{AgreeOnAttempt}
 use Rattle.pc_rule.specs.Deciding.{MayPutNumber, MayClearOwn}
@@ -181,6 +182,18 @@ may_clear x places won new has agree known cleaned is = (
         subst (λ (n : ℕ). Has x.view.notes (clean x.view.seat n p.0.node p.0.field)) (sym agree.number) (cleaned i p.0 p.1);
   },
 )
+
+-- what clearing tells of the pass, by the stage in which its attempt was decided
+abbrev pub IsClearedSo : Whole → Whole → Stage → Type 0
+IsClearedSo x y st = y ≡ record x { view = after_clear x.view; knows = after_clearing x.knows st }
+
+pub cleared_so : (x y : Whole) (won : Bool) → AgreeOnAttempt x → KnowsOutcome x won
+    → ((st : Stage) → Has x.knows.told (verdict (code x.view.seat x.knows.own.number) st) → IsClearedSo x y st)
+    → (st : Stage) × Has x.knows.told (verdict (code x.view.seat x.knows.own.number) st) × IsClearedSo x y st
+cleared_so x y won agree known told =
+    let has : Has x.knows.told (verdict (code x.view.seat x.knows.own.number) known.0) =
+    subst (λ (n : ℕ). Has x.knows.told (verdict (code x.view.seat n) known.0)) (sym agree.number) known.1 in
+    (known.0, has, told known.0 has)
 
 pub outcome_still : (x y : Whole) (won : Bool) → HasLearnt x y → KnowsOutcome x won → KnowsOutcome y won
 outcome_still x y won l known = let v = l.view.same in (

@@ -10,8 +10,10 @@ use Rattle.pc_rule_law.specs.Past.{Has}
 use Rattle.pc_rule_law.proofs.Lists.{below_length}
 use Rattle.pc_rule_law.specs.Stages.{IsIdle, IsOpen, decided_from, decided_by}
 use Rattle.pc_rule_law.specs.Views.{View, decided_below}
+use Rattle.pc_rule_law.proofs.Lists.{has_right}
 use Rattle.pc_protocol.specs.Histories.{Cause, withdrawn, ended, changed, locked, Stage, committed, aborted}
 use Rattle.pc_protocol.specs.Notes.{Note, clock_was, outdated, published, verdict}
+use Rattle.pc_exchange_law.specs.OwnSlots.{made_by}
 use Rattle.pc_protocol.specs.Seeing.{Covers}
 use Rattle.pc_exchange_law.proofs.ChangeLists.{among_has}
 use Rattle.pc_exchange_law.specs.Ties.{code, exchange_of, last_stamp, IsStageOf}
@@ -61,11 +63,11 @@ outcome_known x places s has settled = let o = settled.stands.own refl refl (own
 
 -- an attempt that was cleared has ended
 pub cleared_ended : (x y : Whole) → HasCleared x y → HasEnded x y
-cleared_ended x y c = let b : Whole = c.0 in let l : HasLearntOrWithdrawn x b = c.1 in subst (HasEnded x) (sym c.2) record {
+cleared_ended x y c = let b : Whole = c.0 in let l : HasLearntOrWithdrawn x b = c.1 in subst (HasEnded x) (sym c.4) record {
   view = ap (λ (v : View). after_clear v) l.view.same;
   adds = l.view.adds;
   noted = l.noted;
-  told = l.told;
+  told = λ n h. has_right (made_by c.2 b.knows.slots.named b.knows.slots.spare) b.knows.told n (l.told n h);
 }
 
 -- what was learnt before an exchange ended

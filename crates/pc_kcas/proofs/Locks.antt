@@ -9,16 +9,18 @@ use mathlib.Core.Option.{some}
 use lib.ListN.{get_elem?}
 use Rattle.pc_model.specs.declared.cell.Field.{Field}
 use Rattle.pc_model.specs.declared.cell.Field.TheVariants.{Version}
+use Rattle.pc_model.specs.Cells.{IsEven}
 use Rattle.pc_model.specs.Exchanges.{Visited}
 use Rattle.pc_history.specs.Footprints.{IsAmong}
 use Rattle.pc_rule_law.specs.Board.{Size, place_number}
 use Rattle.pc_rule_law.specs.Past.{Has}
 use Rattle.pc_rule_law.proofs.Lists.{below_length, has_first, has_left, has_right, all_both, all_one}
 use Rattle.pc_rule_law.proofs.Places.{one_word}
-use Rattle.pc_protocol.specs.Notes.{Note as ToldNote, saw}
+use Rattle.pc_protocol.specs.Notes.{Note as ToldNote, saw, in_use}
 use Rattle.pc_exchange_law.specs.ExchangeConditions.{KnowsOld, was_read, is_version, was_visited, was_opened, was_written}
 use Rattle.pc_exchange_law.specs.Passes.{PassKnows}
 use Rattle.pc_exchange_law.specs.Paths.{Path, read_of}
+use Rattle.pc_exchange_law.specs.Slots.{IsHeld, IsHeldOrVisited}
 use Rattle.pc_exchange_law.proofs.ChangeLists.{among_has}
 use Rattle.pc_rule.specs.declared.opening.Place.{Place}
 use Rattle.pc_rule.specs.declared.visit.Visit.{Visit}
@@ -29,7 +31,7 @@ use Rattle.pc_rule.proofs.Sharing.{from_map}
 use Rattle.pc_rule.proofs.Starting.{element}
 use Rattle.pc_kcas.specs.declared.mode.Mode.{Mode}
 use Rattle.pc_kcas.specs.declared.mode.Mode.TheVariants.{Words, Path as OfPath, LockedPath as OfLockedPath}
-use Rattle.pc_kcas.specs.Exchanges.{RaisesVersions, KnowsOldValues}
+use Rattle.pc_kcas.specs.Exchanges.{IsOneWord, RaisesVersions, KnowsOldValues}
 use Rattle.pc_kcas.specs.Locks.{lock_of, lists_version, with_lock, with_locks, words_by, WhereLocked, CanLock}
 
 -- ---- whether a version is listed
@@ -135,19 +137,22 @@ more_words OfLockedPath p places = all_locks places p.visits
 
 -- ---- each node is raised, or locked
 
--- with the word comes the version of its node, which rises, or stays as the node's one word
+-- with the word comes the version of its node, which rises, and to an even number or as the node's one word, or stays as that
 abbrev pub RaisesOrLocks : List Place → Place → Type 0
 RaisesOrLocks places p = (v : Place) × Has places v × (v.node ≡ p.node) × (v.field ≡ Version)
-    × ((v.old < v.new) ⊎ ((v.new ≡ v.old) × ((q : Place) → Has places q → q.node ≡ p.node → q.field ≡ Version)))
+    × (((v.old < v.new) × (p.field ≡ Version → IsEven p.new ⊎ IsOneWord places p.node)) ⊎ ((v.new ≡ v.old) × IsOneWord places p.node))
 
 abbrev pub AllRaiseOrLock : List Place → Type 0
 AllRaiseOrLock places = (p : Place) → Has places p → RaisesOrLocks places p
 
 pub raise_all : (places : List Place) → RaisesVersions places → AllRaiseOrLock places
 raise_all places raises p h =
-    let r = subst (λ (q : Place). (v : Place) × Has places v × (v.node ≡ q.node) × (v.field ≡ Version) × (v.new ≡ v.old + 2)) (read_at places h.0 p p h.1)
+    let r = subst (λ (q : Place). (v : Place) × Has places v × (v.node ≡ q.node) × (v.field ≡ Version) × ((v.new ≡ v.old + 2) ⊎ (v.new ≡ v.old + 1))
+    × (q.field ≡ Version → IsEven q.new ⊎ IsOneWord places q.node))
+    (read_at places h.0 p p h.1)
     (raises h.0 p (below_length places h.0 p h.1)) in
-    let v : Place = r.0 in let more : v.new ≡ v.old + 2 = r.4 in (v, r.1, r.2, r.3, inl (omega arith))
+    let v : Place = r.0 in let more : (v.new ≡ v.old + 2) ⊎ (v.new ≡ v.old + 1) = r.4 in
+    (v, r.1, r.2, r.3, inl (⊎_elim (λ (two : v.new ≡ v.old + 2). omega arith) (λ (one : v.new ≡ v.old + 1). omega arith) more, r.5))
 
 module _ (places : List Place) (u : Visited) (all : AllRaiseOrLock places) (none : lists_version u.node places ≡ false) where
   -- none of the words is of the node
@@ -156,20 +161,20 @@ module _ (places : List Place) (u : Visited) (all : AllRaiseOrLock places) (none
   not_of_node q h e = let r = all q h in let v : Place = r.0 in
       unlisted u.node places none v r.1 (ap₂ place_number (r.2 ∙ e) r.3)
 
+  one_word_more : (n : ℕ) → IsOneWord places n → IsOneWord (places ++ lock_of u ∷ []) n
+  one_word_more n one = all_both (λ (q : Place). q.node ≡ n → q.field ≡ Version) places (lock_of u ∷ []) one
+      (all_one (λ (q : Place). q.node ≡ n → q.field ≡ Version) (lock_of u) (λ _. refl))
+
   locked_more : AllRaiseOrLock (places ++ lock_of u ∷ [])
-  unfolding not_of_node
+  unfolding not_of_node one_word_more
   locked_more = all_both (RaisesOrLocks (places ++ lock_of u ∷ [])) places (lock_of u ∷ [])
       (λ p h. let r = all p h in (
         r.0,
         has_left places (lock_of u ∷ []) r.0 r.1,
         r.2,
         r.3,
-        ⊎_elim (λ rises. inl rises)
-            (λ locks. inr (
-              locks.0,
-              all_both (λ (q : Place). q.node ≡ p.node → q.field ≡ Version) places (lock_of u ∷ []) locks.1
-                  (all_one (λ (q : Place). q.node ≡ p.node → q.field ≡ Version) (lock_of u) (λ _. refl)),
-            )) r.4,
+        ⊎_elim (λ rises. inl (rises.0, λ version. ⊎_elim (λ even. inl even) (λ one. inr (one_word_more p.node one)) (rises.1 version)))
+            (λ locks. inr (locks.0, one_word_more p.node locks.1)) r.4,
       ))
       (all_one (RaisesOrLocks (places ++ lock_of u ∷ [])) (lock_of u) (
         lock_of u,
@@ -203,6 +208,10 @@ KnowsItsOld z k places p = (v : Place) × Has places v × (v.node ≡ p.node) ×
 abbrev pub AllKnown : Size → PassKnows → List Place → Type 0
 AllKnown z k places = (p : Place) → Has places p → KnowsItsOld z k places p
 
+-- what is asked of each listed word
+abbrev KnowsAndHolds : Size → PassKnows → List Place → Place → Type 0
+KnowsAndHolds z k places p = (v : Place) × Has places v × (v.node ≡ p.node) × (v.field ≡ Version) × KnowsOld z k p.node v.old p.field p.old × IsHeld k p.node
+
 -- an old number that was known is known still
 pub old_still : (z : Size) (k k' : PassKnows) (n v : ℕ) (f : Field) (x : ℕ) → ((m : ToldNote) → Has k.told m → Has k'.told m) → KnowsOld z k n v f x
     → KnowsOld z k' n v f x
@@ -215,7 +224,7 @@ old_still z k k' n v f x more (was_written y s c before old e decided there one 
 module _ (z : Size) (k : PassKnows) where
   pub known_all : (k' : PassKnows) (places : List Place) → ((m : ToldNote) → Has k'.told m → Has k.told m) → KnowsOldValues z k' places → AllKnown z k places
   unfolding old_still
-  known_all k' places more known p h = let r = subst (KnowsItsOld z k' places) (read_at places h.0 p p h.1) (known h.0 p (below_length places h.0 p h.1)) in
+  known_all k' places more known p h = let r = subst (KnowsAndHolds z k' places) (read_at places h.0 p p h.1) (known h.0 p (below_length places h.0 p h.1)) in
       let v : Place = r.0 in (v, r.1, r.2, r.3, old_still z k' k p.node v.old p.field p.old more r.4)
 
   known_more : (places : List Place) (u : Visited) → KnowsOld z k u.node u.version Version u.version → AllKnown z k places
@@ -244,6 +253,39 @@ module _ (z : Size) (k : PassKnows) where
       → KnowsOld z k u.node u.version Version u.version
   visit_known p [] c seen u among = absurd among
   visit_known p (v ∷ held) c seen u among = was_visited c (read_of p) u refl refl refl refl among seen
+
+-- ---- the nodes are in use
+
+abbrev pub AllTouched : PassKnows → List Visited → List Place → Type 0
+AllTouched k visits places = (p : Place) → Has places p → IsHeldOrVisited k visits p.node
+
+-- the visits that a pass holds are among those of its path
+held_visit : (held : List Visit) (p : Path) (u : Visited) → IsAmong u (path_with held p).visits → IsAmong u p.visits
+held_visit [] p u among = absurd among
+held_visit (v ∷ held) p u among = among
+
+module _ (k : PassKnows) (visits : List Visited) where
+  -- nodes that are held are so for a pass that knows more
+  pub touched_all : (z : Size) (k' : PassKnows) (places : List Place) → ((m : ToldNote) → Has k'.told m → Has k.told m) → KnowsOldValues z k' places
+      → AllTouched k visits places
+  touched_all z k' places more known p h = let r = subst (KnowsAndHolds z k' places) (read_at places h.0 p p h.1) (known h.0 p (below_length places h.0 p h.1)) in
+      inl (⊎_elim (λ sentinel. inl sentinel) (λ told. inr (more (in_use p.node) told)) r.5)
+
+  touched_locks : (places : List Place) (locked : List Visited) → ((u : Visited) → IsAmong u locked → IsAmong u visits) → AllTouched k visits places
+      → AllTouched k visits (with_locks places locked)
+  unfolding on_lock
+  touched_locks places [] of all = all
+  touched_locks places (u ∷ locked) of all = touched_locks (with_lock places u) locked (λ v among. of v (inr among))
+      (on_lock (AllTouched k visits) places u (λ _. all) (λ _. all_both (λ (q : Place). IsHeldOrVisited k visits q.node) places (lock_of u ∷ []) all
+      (all_one (λ (q : Place). IsHeldOrVisited k visits q.node) (lock_of u) (inr (u, of u (inl refl), refl)))))
+
+-- and a lock is of a node that was visited
+pub touched_by : (k : PassKnows) (mode : Mode) (held : List Visit) (p : Path) (places : List Place) → AllTouched k p.visits places
+    → AllTouched k p.visits (words_by mode (path_with held p) places)
+unfolding held_visit touched_locks
+touched_by k Words held p places all = all
+touched_by k OfPath held p places all = all
+touched_by k OfLockedPath held p places all = touched_locks k p.visits places (path_with held p).visits (held_visit held p) all
 
 -- ---- each visit is covered
 

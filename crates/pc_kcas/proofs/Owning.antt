@@ -1,10 +1,10 @@
 -- What a pass knows of the exchange that it published itself.
-use Rattle.std.proofs.Common.{◌≡◌, ◌≢◌, ◌⊎◌, ⊎_elim, inl, inr, ℕ, zero, suc, ◌+◌, List, [], ◌∷◌, length, map, ◌≤◌, refl, sym, ap, ap₂, ◌∙◌, subst, arith}
+use Rattle.std.proofs.Common.{◌≡◌, ◌≢◌, ◌⊎◌, ⊎_elim, inl, inr, Option, ℕ, zero, suc, ◌+◌, List, [], ◌∷◌, length, map, ◌≤◌, refl, sym, ap, ap₂, ◌∙◌, subst, arith}
 use mathlib.Core.Option.{some}
 use lib.ListN.{get_elem?}
 use Rattle.pc_model.specs.declared.cell.Field.{Field}
 use Rattle.pc_model.specs.declared.shape.Shape.{Ghosts}
-use Rattle.pc_model.specs.Exchanges.{Changed, Visited, Exchange, Seen}
+use Rattle.pc_model.specs.Exchanges.{Changed, Visited, Exchange, Seen, FreshNode}
 use Rattle.pc_rule_law.specs.Board.{Size}
 use Rattle.pc_rule_law.specs.Past.{Has, Attempt, change, Describes}
 use Rattle.pc_rule_law.specs.Plays.{after_publish}
@@ -45,16 +45,16 @@ same_visit x y n v = ap₂ (λ (a b : ℕ). record { node = a; version = b }) n 
 
 -- two attempts that the same words describe, and which have the same reads where they have the same visits, make the same exchange
 one_exchange : (slots : ℕ) (a b : Attempt) (word : ℕ → ℕ) → Describes slots a word → Describes slots b word
-    → (a.visits ≡ b.visits → a.reads ≡ b.reads) → exchange_of a ≡ exchange_of b
+    → (a.visits ≡ b.visits → a.reads ≡ b.reads) → a.fresh ≡ b.fresh → exchange_of a ≡ exchange_of b
 unfolding same_list same_change same_visit
-one_exchange slots a b word one two reads =
+one_exchange slots a b word one two reads fresh =
     let changes : a.changes ≡ b.changes = same_list a.changes b.changes (sym one.changes ∙ two.changes) (λ i x y at_x at_y.
     let e = one.each_change i x at_x in let f = two.each_change i y at_y in let w = one_word x.node y.node x.field y.field (sym e.0 ∙ f.0) in
     same_change x y w.0 w.1 (sym e.1 ∙ f.1) (sym e.2 ∙ f.2)) in
     let visits : a.visits ≡ b.visits = same_list a.visits b.visits (sym one.visits ∙ two.visits) (λ i x y at_x at_y.
     let e = one.each_visit i x at_x in let f = two.each_visit i y at_y in same_visit x y (sym e.0 ∙ f.0) (sym e.1 ∙ f.1)) in
-    ap₂ (λ (c : List Changed) (i : List Visited × List Seen). exchange_of (record { mode = 0; changes = c; visits = i.0; reads = i.1 })) changes
-    (λ j. (visits j, reads visits j))
+    ap₂ (λ (c : List Changed) (i : List Visited × List Seen × Option FreshNode). exchange_of (record { mode = 0; changes = c; visits = i.0; reads = i.1; fresh = i.2 })) changes
+    (λ j. (visits j, reads visits j, fresh j))
 
 -- what was published is the exchange of the words that were listed
 pub own_exchange_noted : (x y : Whole) (mode : ℕ) (visits : List Visited) (reads : List Seen) (places : List Place) → AgreeOnAttempt x → y.view ≡ after_publish x.view
@@ -67,7 +67,7 @@ own_exchange_noted x y mode visits reads places agree at told so by =
     let found : Describes slots told.0 (word_in x.view.attempt.words) = subst (λ (l : List (ℕ × ℕ)). Describes slots told.0 (word_in l)) agree.words told.2 in
     let same : exchange_of told.0 ≡ exchange_of listed_one = one_exchange slots told.0 listed_one (word_in x.view.attempt.words) found so
     (λ _. ⊎_elim (λ none. (told.5.none (sym found.mode ∙ (so.mode ∙ none.0))).1 ∙ sym none.1)
-    (λ all. told.5.all (λ e. all.0 (sym so.mode ∙ (found.mode ∙ e))) ∙ sym all.1) by) in
+    (λ all. told.5.all (λ e. all.0 (sym so.mode ∙ (found.mode ∙ e))) ∙ sym all.1) by) told.7 in
     let number : code x.view.seat (x.knows.own.number + 1) ≡ code y.view.seat y.view.attempt.number =
     ap₂ (λ (s n : ℕ). code s n) (sym (ap (λ (v : View). v.seat) at)) (ap (λ (n : ℕ). n + 1) agree.number ∙ sym (ap (λ (v : View). v.attempt.number) at)) in
     let there : Has y.knows.told (published (code x.view.seat (x.knows.own.number + 1)) (exchange_of told.0) told.1) =

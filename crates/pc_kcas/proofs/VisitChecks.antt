@@ -1,5 +1,5 @@
 -- The check of the nodes that an exchange visits: what a look tells of a visit, and that it is known still.
-use Rattle.std.proofs.Common.{◌≡◌, ◌≢◌, ℕ, ◌+◌, ◌*◌, ◌<◌, ◌≤◌, ⊎_elim, inl, inr, List, [], ◌∷◌, ◌++◌, refl, sym, ap, ◌∙◌, subst, arith}
+use Rattle.std.proofs.Common.{◌≡◌, ◌≢◌, ℕ, ◌+◌, ◌*◌, ◌<◌, ◌≤◌, ⊎_elim, inl, inr, List, [], ◌++◌, refl, sym, ap, ◌∙◌, subst, arith}
 use Rattle.std.proofs.lemmas.Bool.{cases_eq}
 use mathlib.Core.Logic.{dite}
 use native.Mathlib.Decide.{ℕ_discrete}
@@ -17,7 +17,7 @@ use Rattle.pc_rule_law.specs.Views.{held, placed, removed, decided_below}
 use Rattle.pc_rule_law.proofs.Lists.{has_first}
 use Rattle.pc_protocol.specs.Notes.{Note as Told, value, by, looked, verdict}
 use Rattle.pc_exchange_law.specs.Attempts.{KnowsEntry, KnowsVisit, listed_word}
-use Rattle.pc_exchange_law.specs.ExchangeConditions.{KnowsPassed, KnowsChecked, is_changed, was_found, was_settled}
+use Rattle.pc_exchange_law.specs.ExchangeConditions.{KnowsPassed, KnowsChecked, VisitsForDraw, is_changed, was_found, was_settled}
 use Rattle.pc_exchange_law.specs.Passes.{PassKnows}
 use Rattle.pc_exchange_law.specs.Ties.{code}
 use Rattle.pc_exchange_law.specs.WholePlays.{CellSeen, LookedFor, StatusTried, after_decided}
@@ -32,7 +32,6 @@ use Rattle.pc_kcas.specs.Concluding.{TellsCourse}
 use Rattle.pc_kcas.specs.Obstacles.{IsStuckAt}
 use Rattle.pc_kcas.specs.Readings.{HasRead, HasLoadedStatus, IsOver, HasPassed, AreCleanWhereMet}
 use Rattle.pc_kcas.specs.Settling.{HasLearnt, IsSettled, KnowsOf, KnowsNoVisits}
-use Rattle.pc_kcas.specs.declared.obstacle.Stuck.TheVariants.{Two}
 use Rattle.pc_kcas.specs.declared.checking.Failed.{Failed}
 use Rattle.pc_kcas.specs.declared.checking.Failed.TheVariants.{Over as IsOverBy, Changed as HasChanged, Locked as IsLocked, Stuck as IsStuckSo}
 use Rattle.pc_kcas.specs.declared.collecting.Settled.{Settled}
@@ -48,6 +47,19 @@ use Rattle.pc_kcas.proofs.Standing.{stands_seen, not_undecided}
 
 pub cell_learnt : (x y : Whole) (n r : ℕ) → CellSeen x n Version r y → HasLearnt x y
 cell_learnt x y n r s = learnt_by x y s.later s.seen.learns
+
+-- a visit of an exchange for which a stamp was drawn
+pub draws_visit : (x : Whole) (op : Ref) (s i n v : ℕ) → op.seat < 32 → HasDrawn x op s → KnowsVisitOf x op i n v → VisitsForDraw x n
+draws_visit x op s i n v small drawn known = record {
+  seat = op.seat;
+  number = op.number;
+  low = omega arith;
+  stamp = s;
+  drawn = drawn;
+  index = i;
+  version = v;
+  known = known;
+}
 
 -- ---- what was known is known still
 

@@ -50,7 +50,9 @@ KnowsEntryOf x op place = (i : ℕ) × KnowsEntry x.knows.noted x.view.seat x.kn
 
 -- the pass has learnt, or withdrew its attempt too, and that is cleared
 abbrev pub HasCleared : Whole → Whole → Type 0
-HasCleared x y = (between : Whole) × HasLearntOrWithdrawn x between × (y ≡ record between { view = after_clear between.view; knows = after_clearing between.knows })
+HasCleared x y = (between : Whole) × HasLearntOrWithdrawn x between × (st : Stage)
+    × Has between.knows.told (verdict (code between.view.seat between.knows.own.number) st)
+    × (y ≡ record between { view = after_clear between.view; knows = after_clearing between.knows st })
 
 module _ {H : Type 0} {S : Ghosts H} where
   -- each word that the pass lists was seen to hold the reference of its last attempt

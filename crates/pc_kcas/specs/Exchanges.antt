@@ -1,5 +1,5 @@
 -- What clauses say of an exchange of several words, from its list to its installs.
-use Rattle.std.specs.Prelude.{◌≡◌, ◌⊎◌, ℕ, ◌+◌, ◌*◌, ◌-◌, ◌^◌, ◌<◌, ◌≤◌, ◌==◌, if◌then◌else◌, true, false, List, [], ◌∷◌, length, map}
+use Rattle.std.specs.Prelude.{◌≡◌, ℕ, ◌+◌, ◌*◌, ◌-◌, ◌^◌, ◌<◌, ◌≤◌, ◌==◌, if◌then◌else◌, true, false, None, List, [], ◌∷◌, length, map, ◌⊎◌}
 use Rattle.std.specs.List.{All}
 use Rattle.std.specs.List.Sorted.{IsPermutation}
 use mathlib.Core.Option.{some}
@@ -13,6 +13,7 @@ use Rattle.pc_exchange_law.specs.ExchangeConditions.{KnowsOld}
 use Rattle.pc_exchange_law.specs.Knowing.{IsAboveSeen}
 use Rattle.pc_exchange_law.specs.Passes.{PassKnows}
 use Rattle.pc_exchange_law.specs.Paths.{Path, read_of}
+use Rattle.pc_exchange_law.specs.Slots.{IsHeld}
 use Rattle.pc_exchange_law.specs.Ties.{code, exchange_of}
 use Rattle.pc_exchange_law.specs.Wholes.{Whole}
 use Rattle.pc_protocol.specs.Notes.{Note, clock_was, saw, published}
@@ -39,22 +40,29 @@ use Rattle.pc_dcss.specs.Installs.{KnowsPlace, IsDecidedSince, IsDifferent, IsMe
 abbrev pub IsFromEven : Place → Type 0
 IsFromEven p = p.field ≡ Version → IsEven p.old
 
--- of each node with a word here the version is among them too, and rises by 2
-abbrev pub RaisesVersions : List Place → Type 0
-RaisesVersions places = All (λ p. (v : Place) × Has places v × (v.node ≡ p.node) × (v.field ≡ Version) × (v.new ≡ v.old + 2)) places
+-- each of these words that is of the node is its version
+abbrev pub IsOneWord : List Place → ℕ → Type 0
+IsOneWord places n = (q : Place) → Has places q → q.node ≡ n → q.field ≡ Version
 
--- of each of these words the old number is known to have stood there while its node had the old version, which is among them
+-- of each node with a word here the version is among them too, and rises by 2, or by 1; and one that becomes odd, which marks its node, is the
+-- node's one word
+abbrev pub RaisesVersions : List Place → Type 0
+RaisesVersions places = All (λ p. (v : Place) × Has places v × (v.node ≡ p.node) × (v.field ≡ Version) × ((v.new ≡ v.old + 2) ⊎ (v.new ≡ v.old + 1))
+    × (p.field ≡ Version → IsEven p.new ⊎ IsOneWord places p.node)) places
+
+-- of each of these words the old number is known to have stood there while its node had the old version, which is among them, and its
+-- node is known to be in use
 abbrev pub KnowsOldValues : Size → PassKnows → List Place → Type 0
-KnowsOldValues z k places = All (λ p. (v : Place) × Has places v × (v.node ≡ p.node) × (v.field ≡ Version) × KnowsOld z k p.node v.old p.field p.old) places
+KnowsOldValues z k places = All (λ p. (v : Place) × Has places v × (v.node ≡ p.node) × (v.field ≡ Version) × KnowsOld z k p.node v.old p.field p.old × IsHeld k p.node) places
 
 -- in each order of these words, the exchange that changes them leaves sound cells, and some keys are charged
 abbrev pub FitsInEachOrder : Form → ℕ → List Place → Type 0
 FitsInEachOrder form slots places = (ordered : List Place) → IsPermutation places ordered
     → (keys : List ℕ) × Fits form slots (exchange_of (attempt_of (map change_of ordered))) keys
 
--- the attempt that makes these changes, with a mode, and with what it visits and reads
+-- the attempt that makes these changes and no node, with a mode, and with what it visits and reads
 abbrev pub attempt_with : ℕ → List Visited → List Seen → List Changed → Attempt
-attempt_with mode visits reads changes = record { mode = mode; changes = changes; visits = visits; reads = reads }
+attempt_with mode visits reads changes = record { mode = mode; changes = changes; visits = visits; reads = reads; fresh = None }
 
 -- the mode word of an attempt of this mode, along a path with these visits: that of one along no visits is that of words alone
 abbrev pub mode_word : Mode → List Visited → ℕ

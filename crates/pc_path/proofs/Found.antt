@@ -8,6 +8,8 @@ use Rattle.pc_rule_law.specs.Conditions.{IsFree}
 use Rattle.pc_rule_law.specs.Past.{Has}
 use Rattle.pc_rule_law.specs.Plays.{AddsNotes, found}
 use Rattle.pc_rule_law.specs.Views.{View, clean, removed}
+use Rattle.pc_protocol.specs.Notes.{in_use}
+use Rattle.pc_exchange_law.specs.Slots.{IsHeld}
 use Rattle.pc_exchange_law.specs.Wholes.{Whole}
 use Rattle.pc_exchange_law.specs.WholePlays.{CellSeen}
 use Rattle.pc_rule.specs.declared.refs.Ref.{Ref}
@@ -33,6 +35,10 @@ cell_goes x y n f w s = goes_later x y s.later s.seen.learns
 
 pub cell_free : (x y : Whole) (n : ℕ) (f : Field) (w : ℕ) → CellSeen x n f w y → IsFree x.view → IsFree y.view
 cell_free x y n f w s free = free_later x.view y.view s.later free
+
+-- a node that was known to be in use is so still
+pub held_goes : (x y : Whole) (n : ℕ) → GoesOn x y → IsHeld x.knows n → IsHeld y.knows n
+held_goes x y n goes held = ⊎_elim (λ sentinel. inl sentinel) (λ told. inr (goes.told (in_use n) told)) held
 
 cell_seat : (x y : Whole) (n : ℕ) (f : Field) (w : ℕ) → CellSeen x n f w y → y.view.seat ≡ x.view.seat
 cell_seat x y n f w s = ap (λ (u : View). u.seat) s.later.same

@@ -2,8 +2,9 @@
 ghost use Rattle.std.specs.Prelude.{◌≡◌, IfOk, IfErr, OnErr, true};
 ghost use Rattle.pc_words.specs.declared.word.WordKind.TheVariants.{Plain};
 ghost use Rattle.pc_rule_law.specs.Conditions.{IsFree};
+ghost use Rattle.pc_exchange_law.specs.Slots.{IsHeld};
 ghost use Rattle.pc_exchange_law.specs.Paths.{with_read};
-ghost use Rattle.pc_rule.specs.Passes.{whole, view, visits, path, board_size, IsPassOf, StaysSeated, HasNode};
+ghost use Rattle.pc_rule.specs.Passes.{whole, view, knows, visits, path, board_size, IsPassOf, StaysSeated, HasNode};
 ghost use Rattle.pc_kcas.specs.Obstacles.{GoesOn};
 ghost use Rattle.pc_kcas.specs.Takings.{IsAtLastInstall};
 ghost use Rattle.pc_path.specs.Faults.{IsBusy, IfBusy, IfNumbers};
@@ -30,6 +31,7 @@ pub fn read<H: Shape>(
     requires open { (path pass.old).begun ≡ true }
     requires free { IsFree (view pass.old) }
     requires node { HasNode board.now node }
+    requires held { IsHeld (knows pass.old) node }
     ensures seated { StaysSeated pass.old pass.new }
     ensures goes_on { GoesOn (whole pass.old) (whole pass.new) }
     ensures free { IsFree (view pass.new) }

@@ -4,8 +4,9 @@ ghost use Rattle.pc_model.specs.declared.cell.Field.TheVariants.{Version};
 ghost use Rattle.pc_model.specs.Cells.{IsEven, IsOdd};
 ghost use Rattle.pc_words.specs.declared.word.WordKind.TheVariants.{Plain};
 ghost use Rattle.pc_rule_law.specs.Conditions.{IsFree};
+ghost use Rattle.pc_exchange_law.specs.Slots.{IsHeld};
 ghost use Rattle.pc_exchange_law.specs.Paths.{last_version, is_visitable, more_visits, with_visit};
-ghost use Rattle.pc_rule.specs.Passes.{whole, view, visits, path, board_size, IsPassOf, StaysSeated, HasNode};
+ghost use Rattle.pc_rule.specs.Passes.{whole, view, knows, visits, path, board_size, IsPassOf, StaysSeated, HasNode};
 ghost use Rattle.pc_rule.specs.Walking.{visits_in};
 ghost use Rattle.pc_kcas.specs.Obstacles.{GoesOn};
 ghost use Rattle.pc_kcas.specs.Takings.{IsAtLastInstall};
@@ -27,6 +28,7 @@ fn find_version<H: Shape>(board: &Board<H>, pass: &mut Pass<H>, node: u32) -> Re
     requires open { (path pass.old).begun ≡ true }
     requires free { IsFree (view pass.old) }
     requires node { HasNode board.now node }
+    requires held { IsHeld (knows pass.old) node }
     requires room { length (visits pass.old) ≤ (board_size board.now).slots }
     ensures seated { StaysSeated pass.old pass.new }
     ensures goes_on { GoesOn (whole pass.old) (whole pass.new) }
@@ -93,6 +95,7 @@ pub fn visit<H: Shape>(board: &Board<H>, pass: &mut Pass<H>, node: u32) -> Resul
     requires open { (path pass.old).begun ≡ true }
     requires free { IsFree (view pass.old) }
     requires node { HasNode board.now node }
+    requires held { IsHeld (knows pass.old) node }
     ensures seated { StaysSeated pass.old pass.new }
     ensures goes_on { GoesOn (whole pass.old) (whole pass.new) }
     ensures free { IsFree (view pass.new) }

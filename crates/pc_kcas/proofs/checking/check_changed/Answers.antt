@@ -2,8 +2,12 @@
 use Rattle.std.proofs.Common.{subst}
 use Rattle.pc_rule.specs.Passes.{whole, view, knows}
 use Rattle.pc_exchange_law.specs.ExchangeConditions.{KnowsPassed, is_changed}
-use Rattle.pc_kcas.proofs.VisitChecks.{look_differs}
+use Rattle.pc_kcas.proofs.VisitChecks.{draws_visit, look_differs}
 use Rattle.pc_kcas.proofs.checking.check_changed.Goals as goal
+
+pub step_17-requires-clause-visited : goal.step_17-requires-clause-visited
+step_17-requires-clause-visited g c = λ _ _. let v = c.requires.visited in
+    draws_visit (whole c.args.pass.now) c.args.op c.args.stamp v.0 c.args.visit.node c.args.visit.version c.requires.small c.requires.drawn v.1
 
 pub returns-then-old-visit-clause-checked : goal.returns-then-old-visit-clause-checked
 returns-then-old-visit-clause-checked g c = let e = c.requires.changes in let p = c.args.pass.now in

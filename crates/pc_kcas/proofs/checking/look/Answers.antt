@@ -6,8 +6,12 @@ use Rattle.pc_rule.specs.Passes.{whole}
 use Rattle.pc_rule.proofs.BoardSizes.{few_seats}
 use Rattle.pc_rule.proofs.Calls.{pass_stays}
 use Rattle.pc_dcss.proofs.Staying.{notes_ranged}
-use Rattle.pc_kcas.proofs.VisitChecks.{look_passes, look_fails, look_locked, reference_noted, look_gone, look_stands}
+use Rattle.pc_kcas.proofs.VisitChecks.{draws_visit, look_passes, look_fails, look_locked, reference_noted, look_gone, look_stands}
 use Rattle.pc_kcas.proofs.checking.look.Goals as goal
+
+pub step_17-found-requires-clause-visited : goal.step_17-found-requires-clause-visited
+step_17-found-requires-clause-visited g c = λ _ _. let v = c.requires.visited in
+    draws_visit (whole c.args.pass.now) c.args.op c.args.stamp v.0 c.args.visit.node c.args.visit.version c.requires.small c.requires.drawn v.1
 
 pub returns-then-version-visit-clause-checked : goal.returns-then-version-visit-clause-checked
 returns-then-version-visit-clause-checked g c = let v = c.requires.visited in let e = c.step_17-found.ensures in

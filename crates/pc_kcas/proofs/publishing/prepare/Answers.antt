@@ -2,6 +2,7 @@
 use Rattle.std.proofs.Common.{rules, ◌≡◌, ◌≤◌, ◌+◌, List, length, map, ap, ap₂, ◌∙◌, subst, refl, sym, ◌∷◌, []}
 use Rattle.std.proofs.lemmas.List.{length-map}
 use Rattle.std.specs.List.Sorted.{IsPermutation, IsNonDecreasingBy}
+use Rattle.pc_model.specs.declared.shape.Shape.{Ghosts}
 use Rattle.pc_model.specs.Exchanges.{Visited}
 use Rattle.pc_exchange_law.specs.Knowing.{IsAboveSeen}
 use Rattle.pc_exchange_law.specs.Passes.{PassKnows}
@@ -9,15 +10,33 @@ use Rattle.pc_exchange_law.specs.Paths.{Path, read_of}
 use Rattle.pc_rule_law.specs.Views.{View, clock_at, word_in, with_notes}
 use Rattle.pc_protocol.specs.Notes.{clock_was, saw}
 use Rattle.pc_exchange_law.proofs.SeenStamps.{above_clock}
+use Rattle.pc_rule.specs.declared.board.Board.{Board}
+use Rattle.pc_rule.specs.declared.board.Pass.{Pass}
 use Rattle.pc_rule.specs.Listed.{word_number}
-use Rattle.pc_rule.specs.Passes.{whole, view, knows, listed, visits, path, board_size}
+use Rattle.pc_rule.specs.Passes.{whole, view, knows, listed, visits, path, board_size, IsPassOf, IsSeatedAs, OnlyListed}
 use Rattle.pc_rule.specs.Walking.{path_with, visited_of}
+use Rattle.pc_rule.proofs.Calls.{pass_stays, only_listed}
 use Rattle.pc_kcas.specs.Exchanges.{ListsTo, VisitsTo, mode_word, visits_by, reads_by}
 use Rattle.pc_kcas.specs.Locks.{words_by}
 use Rattle.pc_kcas.proofs.Attempts.{describes}
 use Rattle.pc_kcas.proofs.PathVisits.{visits_described}
 use Rattle.pc_kcas.proofs.Words.{lists_below, only_then}
 use Rattle.pc_kcas.proofs.publishing.prepare.Goals as goal
+
+-- the pass is one of the board's still, when its list was made and sorted
+module _ {H : Type 0} {S : Ghosts H} where
+  sorted_pass : (b : Board H) (p one two three : Pass H S) → IsPassOf b p → IsSeatedAs p one → OnlyListed one two → OnlyListed two three → IsPassOf b three
+  sorted_pass b p one two three of seated made sorted =
+      let first = pass_stays b p one of seated in let second = pass_stays b one two first (only_listed b one two first made) in
+      pass_stays b two three second (only_listed b two three second sorted)
+
+pub visits_of-visits-requires-clause-pass : goal.visits_of-visits-requires-clause-pass
+visits_of-visits-requires-clause-pass g c κs within = sorted_pass c.args.board.now c.args.pass.now c.step_9-clock.new.pass c.list_by.new.pass c.sort_listed.new.self
+    c.requires.pass c.step_9-clock.ensures.pass.0 c.list_by.ensures.only c.sort_listed.ensures.only
+
+pub write_listed-requires-clause-pass : goal.write_listed-requires-clause-pass
+write_listed-requires-clause-pass g c κs within = sorted_pass c.args.board.now c.args.pass.now c.step_9-clock.new.pass c.list_by.new.pass c.sort_listed.new.self
+    c.requires.pass c.step_9-clock.ensures.pass.0 c.list_by.ensures.only c.sort_listed.ensures.only
 
 pub returns-clause-path : goal.returns-clause-path
 returns-clause-path g c = (

@@ -18,7 +18,7 @@ use Rattle.pc_rule.proofs.Starting.{element}
 use Rattle.pc_kcas.specs.Exchanges.{visit_count, FitsByMode, HasPublished, KnowsOwn, KnowsExchange, KnowsAbove, VisitsHeld, attempt_with, exchange_by, mode_word, visits_by, reads_by, own_exchange}
 use Rattle.pc_kcas.specs.Locks.{words_by, WhereLocked, CanLock}
 use Rattle.pc_kcas.proofs.Attempts.{only_published, may_publish, has_published, knows_place}
-use Rattle.pc_kcas.proofs.Locks.{raises_by, known_by, known_all, visit_known, more_words}
+use Rattle.pc_kcas.proofs.Locks.{raises_by, known_by, known_all, visit_known, touched_all, touched_by, more_words}
 use Rattle.pc_kcas.proofs.Owning.{own_exchange_noted, own_published, above_fewer, noted_published, told_published}
 use Rattle.pc_kcas.proofs.PathVisits.{goes_by, covers_by, reads_go, visits_inside}
 use Rattle.pc_kcas.proofs.publishing.publish.Goals as goal
@@ -46,6 +46,7 @@ step_11-requires-clause-may g c = λ _ _.
     (raises_by mode (path p) (listed first) c.requires.raises) fit
     (known_by (board_size b) (knows p) mode (path p) (listed first) (visit_known (board_size b) (knows p) (whole p).path (visits p) r saw_path)
     (known_all (board_size b) (knows p) (knows first) (listed first) more c.requires.old))
+    (touched_by (knows p) mode (visits p) (whole p).path (listed first) (touched_all (knows p) (whole p).path.visits (board_size b) (knows first) (listed first) more c.requires.old))
     (λ m h. h)
     (subst (λ l. Has l (clock_was r)) (sym only.told) (0, refl)) only.above
     (visits_inside (view p).size.slots (path p) (visits p) p.walking.visits mode p.walking.fit p.walking.few) c.prepare.ensures.described goes (search rules)

@@ -5,9 +5,12 @@ use Rattle.pc_rule.specs.Passes.{whole, path}
 use Rattle.pc_exchange_law.specs.Paths.{Path}
 use Rattle.pc_rule.proofs.Walking.{read_same}
 use Rattle.pc_kcas.proofs.Evidence.{goes_then}
-use Rattle.pc_path.proofs.Found.{cell_goes, cell_free, in_the_way}
+use Rattle.pc_path.proofs.Found.{held_goes, cell_goes, cell_free, in_the_way}
 use Rattle.pc_path.proofs.Paths.{reference_read, path_kept, visits_kept}
 use Rattle.pc_path.proofs.reading.read.Goals as goal
+
+pub step_5_read-found-requires-clause-held : goal.step_5_read-found-requires-clause-held
+step_5_read-found-requires-clause-held g c = λ _ _. held_goes (whole c.args.pass.now) (whole c.loop-number.pass) c.args.node c.loop-number.invariant.goes c.requires.held
 
 pub returns-in-Ok-clause-goes_on : goal.returns-in-Ok-clause-goes_on
 returns-in-Ok-clause-goes_on g c = let x0 = whole c.args.pass.now in let x = whole c.loop-number.pass in let y = whole c.step_5_read-found.new.pass in

@@ -4,9 +4,12 @@ use Rattle.pc_model.specs.declared.cell.Field.TheVariants.{Version}
 use Rattle.pc_words.specs.Words.{kind}
 use Rattle.pc_rule.specs.Passes.{whole, visits, path}
 use Rattle.pc_kcas.proofs.Evidence.{goes_then}
-use Rattle.pc_path.proofs.Found.{cell_goes, cell_free, in_the_way}
+use Rattle.pc_path.proofs.Found.{held_goes, cell_goes, cell_free, in_the_way}
 use Rattle.pc_path.proofs.Paths.{reference_visited, reference_visits, path_kept, visits_kept}
 use Rattle.pc_path.proofs.visiting.find_version.Goals as goal
+
+pub step_5_visit-found-requires-clause-held : goal.step_5_visit-found-requires-clause-held
+step_5_visit-found-requires-clause-held g c = λ _ _. held_goes (whole c.args.pass.now) (whole c.loop-version.pass) c.args.node c.loop-version.invariant.goes c.requires.held
 
 pub returns-in-Ok-clause-goes_on : goal.returns-in-Ok-clause-goes_on
 returns-in-Ok-clause-goes_on g c = let x0 = whole c.args.pass.now in let x = whole c.loop-version.pass in let y = whole c.step_5_visit-found.new.pass in
