@@ -13,6 +13,7 @@ use Rattle.pc_protocol.specs.Histories.{committed}
 use Rattle.pc_protocol.specs.Notes.{published, verdict}
 use Rattle.pc_exchange_law.specs.ExchangeConditions.{KnowsOld, was_written}
 use Rattle.pc_exchange_law.specs.Passes.{PassKnows}
+use Rattle.pc_exchange_law.specs.Slots.{IsHeld}
 use Rattle.pc_exchange_law.specs.Ties.{exchange_of}
 use Rattle.pc_exchange_law.proofs.ChangeLists.{has_among}
 use Rattle.pc_rule.specs.declared.opening.Place.{Place}
@@ -44,7 +45,7 @@ pub record IsNext (one two first second : Place) : Type 0 where
 
 -- where the first took effect, their old values are known: it wrote them
 module _ (z : Size) (k : PassKnows) (y s c : ℕ) (visits : List Visited) (reads : List Seen) (listed : List Place) (one two first second : Place) (won : Has k.told (verdict y (committed s)))
-    (there : Has k.told (published y (exchange_of (attempt_with 0 visits reads (map change_of listed))) c)) (same : IsPermutation (one ∷ two ∷ []) listed) (next : IsNext one two first second) where
+    (there : Has k.told (published y (exchange_of (attempt_with 0 visits reads (map change_of listed))) c)) (same : IsPermutation (one ∷ two ∷ []) listed) (next : IsNext one two first second) (held : IsHeld k first.node) where
   wrote_version : (n : ℕ) → n ≡ one.node → IsAmong (change n Version one.old first.old) (map change_of listed)
   unfolding among_one as_change
   wrote_version n at = subst (λ (x : Changed). IsAmong x (map change_of listed)) (as_change one n Version first.old at (sym next.version.0) next.version.3) (among_one one two listed same)
@@ -61,6 +62,6 @@ module _ (z : Size) (k : PassKnows) (y s c : ℕ) (visits : List Visited) (reads
 
   pub next_values : KnowsOldValues z k (first ∷ second ∷ [])
   unfolding wrote_first wrote_second
-  next_values zero d lt = (first, (zero, refl), refl, next.version.2, wrote_first)
-  next_values (suc zero) d lt = (first, (zero, refl), next.version.1 ∙ sym (next.other.1 ∙ next.other.0), next.version.2, wrote_second)
+  next_values zero d lt = (first, (zero, refl), refl, next.version.2, wrote_first, held)
+  next_values (suc zero) d lt = (first, (zero, refl), next.version.1 ∙ sym (next.other.1 ∙ next.other.0), next.version.2, wrote_second, subst (IsHeld k) (next.version.1 ∙ sym (next.other.1 ∙ next.other.0)) held)
   next_values (suc (suc n)) d lt = absurd (omega arith)

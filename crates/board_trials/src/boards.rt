@@ -85,10 +85,10 @@ fn a_pass_tells_its_share(rt: HostRuntime) -> Result<(), Memory> {
 }
 
 #[test]
-fn a_pass_is_open_and_has_done_nothing(rt: HostRuntime) -> Result<(), Memory> {
+fn a_pass_is_at_rest_and_has_done_nothing(rt: HostRuntime) -> Result<(), Memory> {
     let shares = [Share { slots: 1, calls: 1 }];
     let (board, passes) = open_board(rt.alloc(), Loose, &shares, usual_starts())?;
-    let mut told = ([true; 3], [1; 2], Some(0));
+    let mut told = ([false, true, true], [1; 2], Some(0));
     for pass in passes.iter() {
         told = (
             [pass.at_rest(), pass.published(), pass.has_spare()],
@@ -97,6 +97,6 @@ fn a_pass_is_open_and_has_done_nothing(rt: HostRuntime) -> Result<(), Memory> {
         );
     }
     close_board(board, passes);
-    assert_eq!(rt; told, ([false; 3], [0; 2], None));
+    assert_eq!(rt; told, ([true, false, false], [0; 2], None));
     Ok(())
 }

@@ -21,6 +21,7 @@ use Rattle.pc_rule_law.specs.Views.{View}
 use Rattle.pc_exchange_law.specs.ExchangeConditions.{KnowsOld, was_read, is_version, was_visited, was_opened, was_written}
 use Rattle.pc_exchange_law.specs.Passes.{PassKnows}
 use Rattle.pc_exchange_law.specs.Paths.{Path, read_of}
+use Rattle.pc_exchange_law.specs.Slots.{IsHeld}
 use Rattle.pc_exchange_law.specs.Ties.{code}
 use Rattle.pc_exchange_law.specs.Wholes.{Whole}
 use Rattle.pc_protocol.specs.Histories.{committed}
@@ -31,7 +32,7 @@ use Rattle.pc_rule.specs.declared.visit.Visit.{Visit}
 use Rattle.pc_rule.specs.Starting.{change_of}
 use Rattle.pc_rule.proofs.Starting.{element}
 use Rattle.pc_kcas.specs.declared.mode.Mode.TheVariants.{Path as OfPath}
-use Rattle.pc_kcas.specs.Exchanges.{RaisesVersions, KnowsOldValues, FitsByMode, exchange_by}
+use Rattle.pc_kcas.specs.Exchanges.{IsOneWord, RaisesVersions, KnowsOldValues, FitsByMode, exchange_by}
 use Rattle.pc_kcas.specs.Obstacles.{GoesOn}
 use Rattle.pc_path.specs.Adds.{IsLastVisit}
 use Rattle.pc_path.specs.Exchanges.{HasExchanged, HasNoEffect}
@@ -238,26 +239,35 @@ ferry_fits slots guest count even room ordered same = (
 
 -- what vexec asks of the two changes
 abbrev RaisesIn : List Place → Place → Type 0
-RaisesIn places p = (v : Place) × Has places v × (v.node ≡ p.node) × (v.field ≡ Version) × (v.new ≡ v.old + 2)
+RaisesIn places p = (v : Place) × Has places v × (v.node ≡ p.node) × (v.field ≡ Version) × ((v.new ≡ v.old + 2) ⊎ (v.new ≡ v.old + 1))
+    × (p.field ≡ Version → IsEven p.new ⊎ IsOneWord places p.node)
 
-pub raises_sentinel : (guest : Guest) (count : Count) → RaisesVersions (changes_for guest count)
-unfolding both
-raises_sentinel Grown count = let v = version_change count in
-    both Grown count (RaisesIn (changes_for Grown count)) (v, (0, refl), refl, refl, refl) (v, (0, refl), refl, refl, refl)
-raises_sentinel Child count = let v = version_change count in
-    both Child count (RaisesIn (changes_for Child count)) (v, (0, refl), refl, refl, refl) (v, (0, refl), refl, refl, refl)
+-- a count is no version
+no_version : (f : Field) (X : Type 0) → field_number f ≢ 0 → f ≡ Version → X
+no_version f X ne version = absurd (ne (ap field_number version))
+
+pub raises_sentinel : (guest : Guest) (count : Count) → IsEven count.version → RaisesVersions (changes_for guest count)
+unfolding both no_version
+raises_sentinel Grown count even = let v = version_change count in
+    let next : IsEven (count.version + 2) = omega arith in
+    both Grown count (RaisesIn (changes_for Grown count)) (v, (0, refl), refl, refl, inl refl, λ _. inl next)
+    (v, (0, refl), refl, refl, inl refl, no_version Value (IsEven (count.grown + 1) ⊎ IsOneWord (changes_for Grown count) 1) (omega arith))
+raises_sentinel Child count even = let v = version_change count in
+    let next : IsEven (count.version + 2) = omega arith in
+    both Child count (RaisesIn (changes_for Child count)) (v, (0, refl), refl, refl, inl refl, λ _. inl next)
+    (v, (0, refl), refl, refl, inl refl, no_version Height (IsEven (count.children + 1) ⊎ IsOneWord (changes_for Child count) 1) (omega arith))
 
 module _ (z : Size) (k : PassKnows) where
   abbrev KnowsIn : List Place → Place → Type 0
-  KnowsIn places p = (v : Place) × Has places v × (v.node ≡ p.node) × (v.field ≡ Version) × KnowsOld z k p.node v.old p.field p.old
+  KnowsIn places p = (v : Place) × Has places v × (v.node ≡ p.node) × (v.field ≡ Version) × KnowsOld z k p.node v.old p.field p.old × IsHeld k p.node
 
   pub knows_both : (guest : Guest) (count : Count) → KnowsOld z k 1 count.version Version count.version → KnowsOld z k 1 count.version Value count.grown
       → KnowsOld z k 1 count.version Height count.children → KnowsOldValues z k (changes_for guest count)
   unfolding both
   knows_both Grown count known grown children = let v = version_change count in
-      both Grown count (KnowsIn (changes_for Grown count)) (v, (0, refl), refl, refl, known) (v, (0, refl), refl, refl, grown)
+      both Grown count (KnowsIn (changes_for Grown count)) (v, (0, refl), refl, refl, known, inl refl) (v, (0, refl), refl, refl, grown, inl refl)
   knows_both Child count known grown children = let v = version_change count in
-      both Child count (KnowsIn (changes_for Child count)) (v, (0, refl), refl, refl, known) (v, (0, refl), refl, refl, children)
+      both Child count (KnowsIn (changes_for Child count)) (v, (0, refl), refl, refl, known, inl refl) (v, (0, refl), refl, refl, children, inl refl)
 
 -- the last visit of an operation that visited the sentinel alone
 pub only_visit : (count : Count) → IsLastVisit (visit_of count ∷ []) 1 count.version

@@ -3,11 +3,10 @@ ghost use Rattle.std.specs.Prelude.{◌<◌, vec_len};
 ghost use Rattle.pc_rule_law.specs.Conditions.{IsFree};
 ghost use Rattle.pc_rule.specs.Passes.{view, SitsAs};
 ghost use Rattle.pc_rule.specs.Shares.{AreAll, NoneTried, NoneVisited};
-ghost use Rattle.examples.specs.Ferry.{IsOpen, IsReady};
+ghost use Rattle.examples.specs.Ferry.{IsReady};
 
 use crate::ferry::{Boarding, Ferry, Guest, Miss, close, embark};
 use pc_model::Memory;
-use pc_path::end;
 use pc_rule::{Board, Pass, Share, open_board, usual_starts};
 
 /// What became of the last of these guests.
@@ -16,10 +15,9 @@ fn embarked(
     pass: &mut Pass<Ferry>,
     guests: &[Guest],
 ) -> Result<Boarding, Miss>
-    requires open { IsOpen board.now pass.old }
+    requires ready { IsReady board.now pass.old }
     ensures seated { IsReady board.now pass.new × SitsAs pass.old pass.new }
 {
-    end(board, pass);
     let mut last = Ok(Boarding::Full(0));
     for guest in guests {
         last = embark(board, pass, *guest);

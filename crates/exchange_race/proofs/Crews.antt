@@ -11,7 +11,7 @@ use Rattle.pc_rule.specs.declared.board.Board.{Board}
 use Rattle.pc_rule.specs.declared.board.Pass.{Pass}
 use Rattle.pc_rule.specs.Passes.{view, IsSeatedAs}
 use Rattle.pc_rule.specs.Recorded.{calls_of}
-use Rattle.pc_rule.specs.declared.share.Share.{Share}
+use Rattle.pc_rule_law.specs.declared.share.Share.{Share}
 use Rattle.pc_rule.specs.Shares.{AreAll, NoneTried, slots_of}
 use Rattle.pc_rule.proofs.Calls.{read_at, pass_stays}
 use Rattle.pc_rule.proofs.Sharing.{from_map}

@@ -1,5 +1,5 @@
 -- What is listed for an exchange of the race: one word more, and what a publication asks of the words.
-use Rattle.std.proofs.Common.{◌≡◌, ℕ, zero, suc, ◌+◌, ◌<◌, List, [], ◌∷◌, ◌++◌, length, get_or, refl, sym, ap, ◌∙◌, subst, arith}
+use Rattle.std.proofs.Common.{◌≡◌, ℕ, zero, suc, ◌+◌, ◌<◌, List, [], ◌∷◌, ◌++◌, length, get_or, inl, refl, sym, ap, ◌∙◌, subst, arith}
 use Rattle.std.specs.List.{All}
 use Rattle.std.proofs.lemmas.List.{length_push}
 use Rattle.std.proofs.lemmas.List.Elements.{All-push, All-weaker}
@@ -131,11 +131,18 @@ module _ (z : Size) (k : PassKnows) (places : List Place) (count : ℕ) (r : Are
 
   pub race_raises : RaisesVersions places
   unfolding first
-  race_raises i d lt = (r.version, first, r.raised.0 ∙ sym (r.each i d lt).node, r.raised.1, r.raised.2)
+  race_raises i d lt = (
+    r.version,
+    first,
+    r.raised.0 ∙ sym (r.each i d lt).node,
+    r.raised.1,
+    inl r.raised.2,
+    λ version. let of = r.each i d lt in inl (subst (λ (f : Field). KeepsLinked f (get_or places i d).new) version of.keeps),
+  )
 
   pub race_known : KnowsOldValues z k places
   unfolding first
-  race_known i d lt = (r.version, first, r.raised.0 ∙ sym (r.each i d lt).node, r.raised.1, (r.each i d lt).known)
+  race_known i d lt = (r.version, first, r.raised.0 ∙ sym (r.each i d lt).node, r.raised.1, (r.each i d lt).known, inl (r.each i d lt).node)
 
   pub race_keeps : All KeepsPlace places
   race_keeps = All-weaker (IsOfRace z k r.version.old) KeepsPlace (λ p of. (of.node, of.keeps)) places r.each

@@ -12,11 +12,11 @@ use Rattle.pc_rule.specs.declared.board.Board.{Board}
 use Rattle.pc_rule.specs.declared.board.Pass.{Pass}
 use Rattle.pc_rule.specs.Passes.{view, IsPassOf, SitsAs}
 use Rattle.pc_rule.specs.Recorded.{calls_of}
-use Rattle.pc_rule.specs.declared.share.Share.{Share}
+use Rattle.pc_rule_law.specs.declared.share.Share.{Share}
 use Rattle.pc_rule.specs.Shares.{AreAll, NoneTried, NoneVisited, slots_of}
 use Rattle.pc_rule.proofs.Calls.{read_at}
 use Rattle.pc_rule.proofs.Sharing.{from_map}
-use Rattle.path_race.specs.Racing.{HasBegun}
+use Rattle.path_race.specs.Racing.{IsReady}
 
 -- what stands in a list stands in the mapped list
 mapped : {X Y : Type 0} (f : X → Y) (l : List X) (i : ℕ) (x : X) → get_elem? l i ≡ some x → get_elem? (map f l) i ≡ some (f x)
@@ -31,14 +31,14 @@ found_at (y ∷ ys) zero x lt is = ap some (sym is)
 found_at (y ∷ ys) (suc i) x lt is = found_at ys i x (omega arith) is
 
 module _ {H : Type 0} {S : Ghosts H} {W : Type 0} (f : W → Pass H S) (b : Board H) where
-  -- each pass of a board that opened has begun an operation
-  pub begun_at : (workers : List W) → AreAll b (map f workers) → NoneTried (map f workers) → NoneVisited (map f workers) → (i : ℕ) (w : W) → i < length workers
-      → w ≡ get_or workers i w → HasBegun b (f w)
+  -- each pass of a board that opened is at rest
+  pub ready_at : (workers : List W) → AreAll b (map f workers) → NoneTried (map f workers) → NoneVisited (map f workers) → (i : ℕ) (w : W) → i < length workers
+      → w ≡ get_or workers i w → IsReady b (f w)
   unfolding mapped found_at
-  begun_at workers all tried visited i w lt is = let at = mapped f workers i w (found_at workers i w lt is) in let o = all.order i (f w) at in let t = tried i (f w) at in record {
+  ready_at workers all tried visited i w lt is = let at = mapped f workers i w (found_at workers i w lt is) in let o = all.order i (f w) at in let t = tried i (f w) at in record {
     of = o.0;
     may = ((t.0, ap (λ (a : OwnAttempt). a.published) t.1), o.2);
-    begun = ap (λ (p : Path). p.begun) (visited i (f w) at).0;
+    rests = ap (λ (p : Path). p.begun) (visited i (f w) at).0;
   }
 
   module _ (old new : List W) (all : AreAll b (map f old)) (count : length new ≡ length old)

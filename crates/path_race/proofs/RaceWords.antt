@@ -1,5 +1,5 @@
 -- What is listed for an exchange of the race: one word more, and what a publication asks of the words.
-use Rattle.std.proofs.Common.{◌≡◌, ℕ, zero, suc, ◌+◌, ◌<◌, List, [], ◌∷◌, ◌++◌, length, get_or, refl, sym, ap, ◌∙◌, subst, arith}
+use Rattle.std.proofs.Common.{◌≡◌, ℕ, zero, suc, ◌+◌, ◌<◌, List, [], ◌∷◌, ◌++◌, length, get_or, inl, refl, sym, ap, ◌∙◌, subst, arith}
 use Rattle.std.specs.List.{All}
 use Rattle.std.proofs.lemmas.List.{length_push}
 use Rattle.std.proofs.lemmas.List.Elements.{All-push, All-weaker}
@@ -25,7 +25,7 @@ Learnt k k' = (n : Note) → Has k.told n → Has k'.told n
 known_still : (z : Size) (k k' : PassKnows) (n v : ℕ) (f : Field) (x : ℕ) → Learnt k k' → KnowsOld z k n v f x → KnowsOld z k' n v f x
 known_still z k k' n v f x l (was_read c h) = was_read c (l _ h)
 known_still z k k' n v f x l (is_version c version same h) = is_version c version same (l _ h)
-known_still z k k' n v f x l (was_visited c e u version same node at among h) = was_visited c e u version same node at among (l _ h)
+known_still z k k' n v f x l (was_visited c e u version same at_node at_version among h) = was_visited c e u version same at_node at_version among (l _ h)
 known_still z k k' n v f x l (was_opened version number) = was_opened version number
 known_still z k k' n v f x l (was_written y s c before old e decided published wrote_version wrote) =
     was_written y s c before old e (l _ decided) (l _ published) wrote_version wrote
@@ -95,11 +95,18 @@ module _ (z : Size) (k : PassKnows) (places : List Place) (count : ℕ) (r : Are
 
   pub race_raises : RaisesVersions places
   unfolding first
-  race_raises i d lt = (r.version, first, r.raised.0 ∙ sym (r.each i d lt).node, r.raised.1, r.raised.2)
+  race_raises i d lt = (
+    r.version,
+    first,
+    r.raised.0 ∙ sym (r.each i d lt).node,
+    r.raised.1,
+    inl r.raised.2,
+    λ version. let of = r.each i d lt in inl (subst (λ (f : Field). KeepsLinked f (get_or places i d).new) version of.keeps),
+  )
 
   pub race_known : KnowsOldValues z k places
   unfolding first
-  race_known i d lt = (r.version, first, r.raised.0 ∙ sym (r.each i d lt).node, r.raised.1, (r.each i d lt).known)
+  race_known i d lt = (r.version, first, r.raised.0 ∙ sym (r.each i d lt).node, r.raised.1, (r.each i d lt).known, inl (r.each i d lt).node)
 
   pub race_keeps : All KeepsPlace places
   race_keeps = All-weaker (IsOfRace z k r.version.old) KeepsPlace (λ p of. (of.node, of.keeps)) places r.each

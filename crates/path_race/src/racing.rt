@@ -4,14 +4,13 @@ ghost use Rattle.std.specs.List.{All};
 ghost use Rattle.pc_rule_law.specs.Conditions.{IsFree};
 ghost use Rattle.pc_rule.specs.Passes.{view, board_size, IsPassOf, SitsAs};
 ghost use Rattle.pc_rule.specs.Shares.{AreAll, NoneTried, NoneVisited};
-ghost use Rattle.path_race.specs.Racing.{HasBegun, IsReady};
+ghost use Rattle.path_race.specs.Racing.{IsReady};
 ghost use Rattle.path_race.specs.Rooms.{HasRoom};
 
 use crate::operating::operate;
 use crate::plan::Mix;
 use crate::worker::Worker;
 use pc_model::Loose;
-use pc_path::end;
 use pc_rule::Board;
 use std::thread;
 use std::thread::Threads;
@@ -44,19 +43,6 @@ fn race(board: &Board<Loose>, worker: &mut Worker, share: u32, mix: Mix)
     worker.hand.stuck = worker.hand.stuck || left > 0;
 }
 
-/// The same by a pass of a board that opened, which comes with an operation begun.
-fn race_first(board: &Board<Loose>, worker: &mut Worker, share: u32, mix: Mix)
-    requires begun { HasBegun board.now worker.old.pass }
-    requires slots { (board_size board.now).slots ≡ 0 }
-    requires room { HasRoom share worker.old.wins }
-    ensures seated { SitsAs worker.old.pass worker.new.pass }
-    ensures pass { IsPassOf board.now worker.new.pass }
-    ensures free { IsFree (view worker.new.pass) }
-{
-    end(board, &mut worker.pass);
-    race(board, worker, share, mix);
-}
-
 /// Each worker makes its share, in a thread of its own.
 pub(crate) fn race_all<R: Threads + Sync>(
     rt: &R,
@@ -73,12 +59,12 @@ pub(crate) fn race_all<R: Threads + Sync>(
     ensures { AreAll board.now (map (λ w. w.pass) workers.new) }
 {
     let work = |_: usize, worker: &mut Worker|
-        requires begun { HasBegun board.now worker.old.pass }
+        requires ready { IsReady board.now worker.old.pass }
         requires slots { (board_size board.now).slots ≡ 0 }
         requires room { HasRoom share worker.old.wins }
         ensures seated { SitsAs worker.old.pass worker.new.pass }
         ensures pass { IsPassOf board.entry.now worker.new.pass }
         ensures free { IsFree (view worker.new.pass) }
-    { race_first(board, worker, share, mix) };
+    { race(board, worker, share, mix) };
     thread::for_each_mut(rt, workers, 8, &work);
 }

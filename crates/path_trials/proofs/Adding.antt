@@ -1,12 +1,12 @@
 -- The words that a pass adds: the version of the sentinel and its value.
-use Rattle.std.proofs.Common.{◌≡◌, ◌≢◌, ℕ, zero, suc, ◌+◌, ◌<◌, true, List, [], ◌∷◌, ◌++◌, length, refl, sym, ap, ap₂, ◌∙◌, subst, arith}
+use Rattle.std.proofs.Common.{◌≡◌, ◌≢◌, ℕ, zero, suc, ◌+◌, ◌<◌, true, List, [], ◌∷◌, ◌++◌, length, inl, refl, sym, ap, ap₂, ◌∙◌, subst, arith}
 use Rattle.std.proofs.lemmas.List.{length_push}
 use mathlib.Core.Option.{some}
 use lib.ListN.{get_elem?}
 use Rattle.pc_model.specs.declared.cell.Field.{Field}
 use Rattle.pc_model.specs.declared.cell.Field.TheVariants.{Version, Value}
 use Rattle.pc_model.specs.declared.shape.Shape.{Ghosts}
-use Rattle.pc_model.specs.Cells.{IsEven}
+use Rattle.pc_model.specs.Cells.{field_number, IsEven}
 use Rattle.pc_protocol.specs.Notes.{visited, read_word}
 use Rattle.pc_rule_law.specs.Board.{Size}
 use Rattle.pc_rule_law.specs.Conditions.{CanWrite}
@@ -57,11 +57,11 @@ module _ {H : Type 0} {S : Ghosts H} where
       evener = omega arith
 
       raises : RaisesVersions (raised v ∷ revalued x new ∷ [])
-      raises zero d lt = (raised v, (0, refl), refl, refl, refl)
-      raises (suc zero) d lt = (raised v, (0, refl), refl, refl, refl)
+      raises zero d lt = (raised v, (0, refl), refl, refl, inl refl, λ _. inl evener)
+      raises (suc zero) d lt = (raised v, (0, refl), refl, refl, inl refl, λ version. absurd (let clash : 2 ≡ 0 = ap field_number version in omega (arith, clash)))
       raises (suc (suc k)) d lt = absurd (omega arith)
 
       knows_both : KnowsOldValues (board_size b) (knows q) (raised v ∷ revalued x new ∷ [])
-      knows_both zero d lt = (raised v, (0, refl), refl, refl, known_version)
-      knows_both (suc zero) d lt = (raised v, (0, refl), refl, refl, known_value)
+      knows_both zero d lt = (raised v, (0, refl), refl, refl, known_version, inl refl)
+      knows_both (suc zero) d lt = (raised v, (0, refl), refl, refl, known_value, inl refl)
       knows_both (suc (suc k)) d lt = absurd (omega arith)

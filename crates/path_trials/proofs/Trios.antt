@@ -26,30 +26,16 @@ three_of {V} l more rest (x ∷ xs) a b c e f g n = absurd
     let r : length rest ≡ length (x ∷ xs) + 1 = ap length g ∙ length_push (x ∷ xs) a in omega arith)
 
 module _ {H : Type 0} {S : Ghosts H} where
-  -- a pass of a board that opened: it has begun an operation, and published nothing
-  pub record Opens (b : Board H) (i : ℕ) (p : Pass H S) : Type 0 where
-    pub seat : HasSeat b i p
-    pub begun : (path p).begun ≡ true
-    pub can : CanWrite (view p)
-
-  pub opens_at : (b : Board H) (passes : List (Pass H S)) → AreAll b passes → NoneTried passes → NoneVisited passes → (i : ℕ) (p : Pass H S)
-      → get_elem? passes i ≡ some p → Opens b i p
-  opens_at b passes all tried visited i p at = let t = tried i p at in record {
-    seat = all.order i p at;
-    begun = ap (λ (q : Path). q.begun) (visited i p at).0;
-    can = (t.0, ap (λ (a : OwnAttempt). a.published) t.1);
-  }
-
-  -- it is at rest after its end
-  pub rests_at : (b : Board H) (i : ℕ) (p q : Pass H S) → Opens b i p → IsPassOf b q → view q ≡ view p → path q ≡ ended_path → HasSeat b i q × IsAtRest q
-  rests_at b i p q opens of same ended = (
-    (of, ap (λ (v : View). v.seat) same ∙ opens.seat.1, subst IsFree (sym same) opens.seat.2),
-    record { rests = ap (λ (r : Path). r.begun) ended; can = subst CanWrite (sym same) opens.can },
+  -- a pass of a board that opened is at rest
+  pub rests_at : (b : Board H) (passes : List (Pass H S)) → AreAll b passes → NoneTried passes → NoneVisited passes → (i : ℕ) (p : Pass H S)
+      → get_elem? passes i ≡ some p → HasSeat b i p × IsAtRest p
+  rests_at b passes all tried visited i p at = let t = tried i p at in (
+    all.order i p at,
+    record { rests = ap (λ (q : Path). q.begun) (visited i p at).0; can = (t.0, ap (λ (a : OwnAttempt). a.published) t.1) },
   )
 
-  pub third_at : (b : Board H) (passes : List (Pass H S)) (p q : Pass H S) → AreAll b passes → HasThree b → get_elem? passes 2 ≡ some p → SitsAs p q → IsThird b q
-  third_at b passes p q all three at sits = let l = all.last 2 p at (sym three.0) in
-      (sits.3 ∙ l.0, sits.4 ∙ l.1, subst (λ (n : ℕ). calls_of b.shares.items ≤ n) (sym sits.7) l.2)
+  pub third_at : (b : Board H) (passes : List (Pass H S)) (p : Pass H S) → AreAll b passes → HasThree b → get_elem? passes 2 ≡ some p → IsThird b p
+  third_at b passes p all three at = let l = all.last 2 p at (sym three.0) in (l.0, l.1, l.2)
 
   -- three that sit as they should are all
   module _ (b : Board H) (p q r : Pass H S) (three : HasThree b) (first : HasSeat b 0 p) (second : HasSeat b 1 q) (third : HasSeat b 2 r) (last : IsThird b r) where

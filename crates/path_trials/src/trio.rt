@@ -6,7 +6,6 @@ ghost use Rattle.path_trials.specs.Operating.{IsAtRest};
 ghost use Rattle.path_trials.specs.Seats.{HasThree, HasSeat, IsThird};
 
 use pc_model::{Field, Loose, Memory};
-use pc_path::end;
 use pc_rule::{Board, Closed, Pass, Share, close_board, open_board};
 use pc_rule_law::Starts;
 use std::alloc::{AllocError, Global};
@@ -43,11 +42,7 @@ fn trio_of(board: &Board<Loose>, passes: Vec<Pass<Loose>>) -> Option<Trio>
     ensures second { IfSome result (λ r. HasSeat board.now 1 r.second × IsAtRest r.second) }
     ensures third { IfSome result (λ r. HasSeat board.now 2 r.third × IsAtRest r.third × IsThird board.now r.third) }
 {
-    let mut trio = taken_apart(passes)?;
-    end(board, &mut trio.first);
-    end(board, &mut trio.second);
-    end(board, &mut trio.third);
-    Some(trio)
+    taken_apart(passes)
 }
 
 /// A board with three passes, each at rest, with a slot and room for so many calls.

@@ -5,8 +5,12 @@ use native.Mathlib.Decide.{ℕ_discrete}
 use Rattle.pc_words.specs.declared.status.Stage.TheVariants.{Idle}
 use Rattle.pc_words.specs.Statuses.{packed}
 use Rattle.pc_rule_law.specs.Conditions.{IsFree}
+use Rattle.pc_rule_law.specs.Past.{Has}
+use Rattle.pc_protocol.specs.Histories.{committed}
+use Rattle.pc_protocol.specs.Notes.{verdict}
+use Rattle.pc_exchange_law.specs.Ties.{code}
 use Rattle.pc_exchange_law.specs.Wholes.{Whole}
-use Rattle.pc_rule.specs.Passes.{whole, listed}
+use Rattle.pc_rule.specs.Passes.{whole, view, knows, listed}
 use Rattle.pc_kcas.proofs.Holding.{pass_published}
 use Rattle.board_trials.specs.Deciding.{IsCleanAt}
 use Rattle.board_trials.proofs.OwnSteps.{may_clear, clean_still}
@@ -32,4 +36,7 @@ step_16-requires-clause-may c κs = let inv = c.loop-i.invariant in let p = c.lo
 )
 
 pub returns-clause-free : goal.returns-clause-free
-returns-clause-free c = subst (λ (x : Whole). IsFree x.view) (sym c.step_16.ensures.told) c.loop-i.invariant.free
+returns-clause-free c = let won = c.loop-i.invariant.succeeded in let p = c.loop-i.pass in
+    let is = c.step_16.ensures.told (committed won.0)
+    (subst (λ (a : ℕ). Has (knows p).told (verdict (code (view p).seat a) (committed won.0))) (sym p.one_attempt.number) won.1) in
+    subst (λ (x : Whole). IsFree x.view) (sym is) c.loop-i.invariant.free

@@ -1,5 +1,5 @@
 -- The second exchange knows its old values, which the first one wrote.
-use Rattle.std.proofs.Common.{map, refl, sym, ap₂, ◌∙◌, subst}
+use Rattle.std.proofs.Common.{map, inl, refl, sym, ap₂, ◌∙◌, subst}
 use Rattle.pc_model.specs.declared.cell.Field.TheVariants.{Version, Value}
 use Rattle.pc_rule_law.specs.Past.{Has}
 use Rattle.pc_protocol.specs.Notes.{published}
@@ -20,4 +20,4 @@ published_from-requires-clause-old c = let p = c.published.new.pass in let q = c
     c.in-Ok.ensures.each record {
       version = (one.word.1, sym one.word.0, refl, sym one.numbers.1);
       other = (two.word.0 ∙ sym one.word.0, sym two.word.0, sym two.word.1, sym two.numbers.1);
-    }
+    } (inl refl)

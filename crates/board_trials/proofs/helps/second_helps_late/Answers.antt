@@ -1,5 +1,5 @@
 -- The next exchange knows its old values, which the one before wrote; and the other pass's stays published over the help.
-use Rattle.std.proofs.Common.{[], ◌∷◌, map, refl, sym, ap, ap₂, ◌∙◌, subst}
+use Rattle.std.proofs.Common.{[], ◌∷◌, map, inl, refl, sym, ap, ap₂, ◌∙◌, subst}
 use Rattle.std.specs.List.Sorted.{IsPermutation}
 use Rattle.pc_model.specs.declared.cell.Field.TheVariants.{Version, Value}
 use Rattle.pc_rule_law.specs.Past.{Has}
@@ -26,4 +26,4 @@ published_from-requires-clause-old c = let o = c.published.new.pass in let p = c
     (subst (λ l. IsPermutation (c.version.result ∷ c.value.result ∷ []) l) (sym (ap (λ v. v.items) c.install_first.ensures.pass.1)) c.in-Ok.ensures.each) record {
       version = (one.word.1, sym one.word.0, refl, sym one.numbers.1);
       other = (two.word.0 ∙ sym one.word.0, sym two.word.0, sym two.word.1, sym two.numbers.1);
-    }
+    } (inl refl)

@@ -13,7 +13,7 @@ use Rattle.examples.proofs.Ferries.{raises_sentinel, knows_both, ferry_fits, abo
 use Rattle.examples.proofs.ferry.seated.Goals as goal
 
 pub vexec-requires-clause-raises : goal.vexec-requires-clause-raises
-vexec-requires-clause-raises c κs = subst RaisesVersions (sym c.add_guest.ensures.added) (raises_sentinel c.args.guest c.args.count)
+vexec-requires-clause-raises c κs = subst RaisesVersions (sym c.add_guest.ensures.added) (raises_sentinel c.args.guest c.args.count c.requires.counted.version.0)
 
 pub vexec-requires-clause-fits : goal.vexec-requires-clause-fits
 vexec-requires-clause-fits c κs = let p = c.args.pass.now in let q = c.add_guest.new.pass in let only = c.add_guest.ensures.only in let r = c.requires.counted in

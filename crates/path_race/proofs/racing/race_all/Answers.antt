@@ -4,12 +4,12 @@ use Rattle.pc_rule_law.specs.Conditions.{IsFree}
 use Rattle.pc_rule.specs.Passes.{view, IsPassOf, SitsAs}
 use Rattle.path_race.specs.declared.worker.Worker.{Worker}
 use Rattle.path_race.specs.Rooms.{HasRoom}
-use Rattle.path_race.proofs.Crews.{begun_at, all_raced}
+use Rattle.path_race.proofs.Crews.{ready_at, all_raced}
 use Rattle.path_race.proofs.racing.race_all.Goals as goal
 
 pub for_each_mut-requires-clause-accepts : goal.for_each_mut-requires-clause-accepts
 for_each_mut-requires-clause-accepts g c κs within i p lt is = let l = c.args.workers.now in (
-  begun_at (λ (w : Worker). w.pass) c.args.board.now l c.requires.all c.requires.tried c.requires.visited i p.now lt is,
+  ready_at (λ (w : Worker). w.pass) c.args.board.now l c.requires.all c.requires.tried c.requires.visited i p.now lt is,
   (
     c.requires.slots,
     subst (λ (w : Worker). HasRoom c.args.share w.wins) (sym is) (c.requires.room i p.now lt),

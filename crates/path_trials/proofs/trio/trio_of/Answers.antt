@@ -1,59 +1,33 @@
--- Each pass of the list has begun an operation, and is at rest after its end.
-use Rattle.std.proofs.Common.{◌≡◌, ap}
-use mathlib.Core.Option.{some}
+-- Each pass of the list is at rest.
+use Rattle.std.proofs.Common.{◌≡◌, [], ◌∷◌, Option, None, Some, ap}
+use Rattle.std.specs.Prelude.{IfSome}
 use lib.ListN.{get_elem?}
-use Rattle.pc_rule.specs.Passes.{SitsAs}
-use Rattle.path_trials.proofs.Trios.{opens_at, rests_at, third_at}
+use Rattle.path_trials.specs.Operating.{IsAtRest}
+use Rattle.path_trials.specs.Seats.{HasSeat, IsThird}
+use Rattle.path_trials.specs.declared.trio.Trio.{Trio}
+use Rattle.path_trials.proofs.Trios.{rests_at, third_at}
 use Rattle.path_trials.proofs.trio.trio_of.Goals as goal
 
-pub end-requires-clause-pass : goal.end-requires-clause-pass
-end-requires-clause-pass c κs = let r = c.requires in let t = c.in_ok-trio.trio in
-    (opens_at c.args.board.now c.args.passes.items r.all r.«open».0 r.«open».1 0 t.first (ap (λ l. get_elem? l 0) c.in_ok-trio.ensures)).seat.0
-
-pub end-requires-clause-open : goal.end-requires-clause-open
-end-requires-clause-open c κs = let r = c.requires in let t = c.in_ok-trio.trio in
-    (opens_at c.args.board.now c.args.passes.items r.all r.«open».0 r.«open».1 0 t.first (ap (λ l. get_elem? l 0) c.in_ok-trio.ensures)).begun
-
-pub end-requires-clause-unpublished : goal.end-requires-clause-unpublished
-end-requires-clause-unpublished c κs = let r = c.requires in let t = c.in_ok-trio.trio in
-    (opens_at c.args.board.now c.args.passes.items r.all r.«open».0 r.«open».1 0 t.first (ap (λ l. get_elem? l 0) c.in_ok-trio.ensures)).can.1
-
-pub end-requires-2-clause-pass : goal.end-requires-2-clause-pass
-end-requires-2-clause-pass c κs = let r = c.requires in let t = c.in_ok-trio.trio in
-    (opens_at c.args.board.now c.args.passes.items r.all r.«open».0 r.«open».1 1 t.second (ap (λ l. get_elem? l 1) c.in_ok-trio.ensures)).seat.0
-
-pub end-requires-2-clause-open : goal.end-requires-2-clause-open
-end-requires-2-clause-open c κs = let r = c.requires in let t = c.in_ok-trio.trio in
-    (opens_at c.args.board.now c.args.passes.items r.all r.«open».0 r.«open».1 1 t.second (ap (λ l. get_elem? l 1) c.in_ok-trio.ensures)).begun
-
-pub end-requires-2-clause-unpublished : goal.end-requires-2-clause-unpublished
-end-requires-2-clause-unpublished c κs = let r = c.requires in let t = c.in_ok-trio.trio in
-    (opens_at c.args.board.now c.args.passes.items r.all r.«open».0 r.«open».1 1 t.second (ap (λ l. get_elem? l 1) c.in_ok-trio.ensures)).can.1
-
-pub end-requires-3-clause-pass : goal.end-requires-3-clause-pass
-end-requires-3-clause-pass c κs = let r = c.requires in let t = c.in_ok-trio.trio in
-    (opens_at c.args.board.now c.args.passes.items r.all r.«open».0 r.«open».1 2 t.third (ap (λ l. get_elem? l 2) c.in_ok-trio.ensures)).seat.0
-
-pub end-requires-3-clause-open : goal.end-requires-3-clause-open
-end-requires-3-clause-open c κs = let r = c.requires in let t = c.in_ok-trio.trio in
-    (opens_at c.args.board.now c.args.passes.items r.all r.«open».0 r.«open».1 2 t.third (ap (λ l. get_elem? l 2) c.in_ok-trio.ensures)).begun
-
-pub end-requires-3-clause-unpublished : goal.end-requires-3-clause-unpublished
-end-requires-3-clause-unpublished c κs = let r = c.requires in let t = c.in_ok-trio.trio in
-    (opens_at c.args.board.now c.args.passes.items r.all r.«open».0 r.«open».1 2 t.third (ap (λ l. get_elem? l 2) c.in_ok-trio.ensures)).can.1
+-- what follows for the three that were found
+if_found : (P Q : Trio → Type 0) (o : Option Trio) → ((t : Trio) → P t → Q t) → IfSome o P → IfSome o Q
+if_found P Q None follows is = is
+if_found P Q (Some t) follows is = follows t is
 
 pub returns-clause-first : goal.returns-clause-first
-returns-clause-first c = let r = c.requires in let t = c.in_ok-trio.trio in let e = c.end.ensures in
-    rests_at c.args.board.now 0 t.first c.end.new.pass
-    (opens_at c.args.board.now c.args.passes.items r.all r.«open».0 r.«open».1 0 t.first (ap (λ l. get_elem? l 0) c.in_ok-trio.ensures)) e.seated.1 e.same.0 e.ended
+unfolding if_found
+returns-clause-first c = let r = c.requires in let l = c.args.passes.items in let b = c.args.board.now in
+    if_found (λ t. l ≡ t.first ∷ t.second ∷ t.third ∷ []) (λ t. HasSeat b 0 t.first × IsAtRest t.first) c.taken_apart.result
+    (λ t is. rests_at b l r.all r.«open».0 r.«open».1 0 t.first (ap (λ k. get_elem? k 0) is)) c.taken_apart.ensures
 
 pub returns-clause-second : goal.returns-clause-second
-returns-clause-second c = let r = c.requires in let t = c.in_ok-trio.trio in let e = c.end-2.ensures in
-    rests_at c.args.board.now 1 t.second c.end-2.new.pass
-    (opens_at c.args.board.now c.args.passes.items r.all r.«open».0 r.«open».1 1 t.second (ap (λ l. get_elem? l 1) c.in_ok-trio.ensures)) e.seated.1 e.same.0 e.ended
+unfolding if_found
+returns-clause-second c = let r = c.requires in let l = c.args.passes.items in let b = c.args.board.now in
+    if_found (λ t. l ≡ t.first ∷ t.second ∷ t.third ∷ []) (λ t. HasSeat b 1 t.second × IsAtRest t.second) c.taken_apart.result
+    (λ t is. rests_at b l r.all r.«open».0 r.«open».1 1 t.second (ap (λ k. get_elem? k 1) is)) c.taken_apart.ensures
 
 pub returns-clause-third : goal.returns-clause-third
-returns-clause-third c = let r = c.requires in let t = c.in_ok-trio.trio in let e = c.end-3.ensures in
-    let at : get_elem? c.args.passes.items 2 ≡ some t.third = ap (λ l. get_elem? l 2) c.in_ok-trio.ensures in
-    let rests = rests_at c.args.board.now 2 t.third c.end-3.new.pass (opens_at c.args.board.now c.args.passes.items r.all r.«open».0 r.«open».1 2 t.third at) e.seated.1 e.same.0 e.ended in
-    (rests.0, rests.1, third_at c.args.board.now c.args.passes.items t.third c.end-3.new.pass r.all r.three at e.seated.0)
+unfolding if_found
+returns-clause-third c = let r = c.requires in let l = c.args.passes.items in let b = c.args.board.now in
+    if_found (λ t. l ≡ t.first ∷ t.second ∷ t.third ∷ []) (λ t. HasSeat b 2 t.third × IsAtRest t.third × IsThird b t.third) c.taken_apart.result
+    (λ t is. let at = ap (λ k. get_elem? k 2) is in let rests = rests_at b l r.all r.«open».0 r.«open».1 2 t.third at in
+    (rests.0, rests.1, third_at b l t.third r.all r.three at)) c.taken_apart.ensures
