@@ -2,6 +2,7 @@
 # Builds the race of proved operations along a path and the plain program, and
 # - replays what 2, 4 and 8 threads of the race took down, and 4 of the plain program,
 # - shows that wrong runs are refused, and that faults are found that are planted in the plain program,
+# - counts the steps of a validated read and of an exchange by one pass alone, where there is `valgrind`,
 # - compares the times of both programs.
 #
 #   path_race.sh [OPERATIONS] [ROUNDS]     OPERATIONS of each replayed run (200,000), and ROUNDS (11) of the times
@@ -30,4 +31,7 @@ for fault in reads-unchecked stamp-last records-lost skips-status holds-changed;
     fi
 done
 echo 'the planted faults were found'
+if command -v valgrind >/dev/null; then
+    python3 tests/path_steps.py
+fi
 python3 bench/path_times.py "$race" "$build/path_stress" "$rounds"
