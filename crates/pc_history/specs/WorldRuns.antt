@@ -1,6 +1,6 @@
 -- The list of a run: exchanges with strictly rising stamps, each of which stands in the cells that the earlier
 -- ones leave.
-use Rattle.std.specs.Prelude.{◌≡◌, ℕ, zero, suc, ◌<◌, ◌≤◌, List, [], ◌∷◌, ◌++◌, Option, Some, None}
+use Rattle.std.specs.Prelude.{◌≡◌, ℕ, zero, suc, ◌<◌, ◌≤◌, nat_lt, if◌then◌else◌, List, [], ◌∷◌, ◌++◌, Option, Some, None}
 use Rattle.pc_model.specs.Cells.{Cells}
 use Rattle.pc_model.specs.Exchanges.{Exchange, Stands, applied}
 use Rattle.pc_history.specs.Footprints.{IsAmong}
@@ -22,6 +22,11 @@ abbrev pub cells_after : Cells → List Stamped → Cells
 cells_after c [] = c
 cells_after c (x ∷ xs) = cells_after (applied x.what c) xs
 
+-- the cells that those of the list leave whose stamp is below this one
+abbrev pub cells_before : Cells → List Stamped → ℕ → Cells
+cells_before c [] s = c
+cells_before c (x ∷ xs) s = cells_before (if nat_lt x.stamp s then applied x.what c else c) xs s
+
 -- what stands at a stamp, as a list
 abbrev pub stamped : ℕ → Option Exchange → List Stamped
 stamped t None = []
@@ -33,9 +38,10 @@ run_of item zero = []
 run_of item (suc t) = run_of item t ++ stamped t (item t)
 
 -- The list has the run's exchanges with stamps below a moment, each of them, and no other; it is a world run,
--- and leaves the cells at that moment.
+-- and leaves the cells at that moment, and its front up to an earlier moment the cells at that one.
 pub record IsListOf (opening : Cells) (item : Items) (t : ℕ) (xs : List Stamped) : Type 0 where
   pub world : IsWorldRun opening 0 xs
   pub leaves : cells_after opening xs ≡ cells_at opening item t
+  pub before : (s : ℕ) → s ≤ t → cells_before opening xs s ≡ cells_at opening item s
   pub only : (x : Stamped) → IsAmong x xs → (x.stamp < t) × (item x.stamp ≡ Some x.what)
   pub all : (s : ℕ) (e : Exchange) → s < t → item s ≡ Some e → IsAmong (record { stamp = s; what = e }) xs
