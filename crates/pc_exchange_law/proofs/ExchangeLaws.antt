@@ -1,5 +1,5 @@
 -- The law of the steps of an exchange.
-use Rattle.std.proofs.Common.{◌<◌, ◌+◌, true, false, ◌∷◌, None, refl, sym, ap, arith, ℕ, ◌≤◌, Bool, subst}
+use Rattle.std.proofs.Common.{◌<◌, ◌+◌, true, false, ◌∷◌, None, refl, sym, ap, arith, ℕ, ◌≤◌, le_refl, Bool, subst}
 use Rattle.pc_model.specs.declared.cell.Field.{Field}
 use Rattle.pc_model.specs.Forms.{Form, Fits}
 use Rattle.pc_words.specs.declared.word.WordKind.{WordKind}
@@ -29,6 +29,7 @@ use Rattle.pc_exchange_law.proofs.OwnAttempts.{steps_keep_scripts}
 use Rattle.pc_exchange_law.proofs.SeenPaths.{paths_still}
 use Rattle.pc_exchange_law.proofs.TieDraws.{look_leads}
 use Rattle.pc_exchange_law.proofs.OwnSlots.{same_slots, publish_own, commit_slots, abort_slots, rewritten, clear_own}
+use Rattle.pc_exchange_law.proofs.SlotCounts.{made_past}
 use Rattle.pc_exchange_law.proofs.Slots.{look_slots, word_slots}
 use Rattle.pc_exchange_law.proofs.TieDecisions.{may_withdraw}
 use Rattle.pc_exchange_law.proofs.TieWords.{may_refer, word_leads}
@@ -107,7 +108,7 @@ module _ (form : Form) (z : Size) (id : ℕ) (b : Board) (t : Past) (w : Scripts
       let grows = (steps_keep_attempts b t w).words n f c placing' course' brings in
       let kept = (steps_keep_owned h world.rule).refers n f (reference_in c) in
       let slots_stay : (j : ℕ) (a : OwnAttempt) (o : OwnSlots) → OwnsSlots z h j a o → OwnsSlots z h' j a o =
-      λ j a o was. same_slots z h h' j a o was kept.spares kept.filled refl refl refl in record {
+      λ j a o was. same_slots z h h' j a o was kept.spares kept.filled refl refl refl refl in record {
         shared = shared';
         world = record {
           rule = led.keeps.rule;
@@ -186,7 +187,7 @@ exchange_steps_go_on form z id b t w h late v k few shared world own noted known
   takes = λ p a n f x is small may. comes form z id b t w h late _ _ _ _ _ _
       (take_step form z few id b t w h late shared world v own noted k known owned p a n f x is small may)
       (let kept = (steps_keep_owned h world.rule).refers n f None in
-      same_slots z h (refer h n f None) id k.own k.slots owned kept.spares kept.filled refl refl refl);
+      same_slots z h (refer h n f None) id k.own k.slots owned kept.spares kept.filled refl refl refl refl);
   clears = λ st decided_so may. comes form z id b t w h late _ _ _ _ _ _
       (clear_step form z few id b t w h late shared world v own noted k known owned st decided_so may)
       (clear_own z h id k.own k.slots owned st (subst (λ (i : ℕ). IsTrueNote h (verdict (code i k.own.number) st))
@@ -196,3 +197,4 @@ exchange_steps_go_on form z id b t w h late v k few shared world own noted known
     drawn_slots : (d : Purpose) → OwnsSlots z (draw h d) id k.own k.slots
     drawn_slots d = let kept = (steps_keep_owned h world.rule).draws d in
         same_slots z h (draw h d) id k.own k.slots owned kept.spares kept.filled refl refl refl
+        (made_past z id h.item h.clock (world.rule.run.late h.clock (le_refl h.clock)))

@@ -6,6 +6,7 @@ pub mod ClockEnds
 pub mod Codes
 pub mod ExchangeLaws
 pub mod ExchangeSteps
+pub mod FreeVersions
 pub mod Knowing
 pub mod KnowingSteps
 pub mod NoteLists
@@ -17,6 +18,8 @@ pub mod Paths
 pub mod SeenPaths
 pub mod SeenStamps
 pub mod Serving
+pub mod ShareCounts
+pub mod SlotCounts
 pub mod Slots
 pub mod Statuses
 pub mod TieDecisions

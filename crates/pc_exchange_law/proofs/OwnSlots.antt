@@ -9,14 +9,16 @@ use Rattle.pc_model.specs.declared.cell.Field.TheVariants.{Version}
 use Rattle.pc_model.specs.Cells.{Cells, field_number}
 use Rattle.pc_model.specs.Exchanges.{FreshNode, Exchange}
 use Rattle.pc_model.proofs.Writes.{same_field}
+use Rattle.pc_history.specs.WorldRuns.{run_of}
 use Rattle.pc_history.proofs.Updates.{updated_here, updated_other, on_updated, from_updated}
-use Rattle.pc_rule_law.specs.Board.{Size, slots_below}
-use Rattle.pc_protocol.specs.Histories.{Cause, Stage, absent, undecided, committed, aborted, Slot, spare, History, cells_now, IsUndecided, IsDecided, IsFree, IsSpare, IsUsed}
+use Rattle.pc_rule_law.specs.Board.{Size, slots_below, start_of}
+use Rattle.pc_protocol.specs.Histories.{Cause, Stage, absent, undecided, committed, aborted, Slot, spare, used, History, cells_now, IsUndecided, IsDecided, IsFree, IsSpare, IsUsed}
 use Rattle.pc_protocol.specs.Notes.{Note, in_use, verdict, IsTrueNote}
 use Rattle.pc_protocol.specs.Openings.{opening_slots}
 use Rattle.pc_protocol.specs.Owned.{HasSpare, IsFilled, KeepsOwned, StepsKeepOwned, MakesNot}
 use Rattle.pc_protocol.specs.Rules.{Rule}
-use Rattle.pc_protocol.specs.Steps.{publish, fill, take_slot, commit, CanCommit, abort, CanAbort}
+use Rattle.pc_protocol.specs.Steps.{slots_with, publish, fill, take_slot, commit, CanCommit, abort, CanAbort}
+use Rattle.pc_protocol.proofs.Drawn.{is_empty}
 use Rattle.pc_protocol.proofs.Owned.{steps_keep_owned}
 use Rattle.pc_protocol.proofs.Slots.{slots_with-used, slots_with-fresh, slots_with-other}
 use Rattle.pc_protocol.proofs.Stages.{none_not_some, some_same, same_option, free_not_spare, free_not_used, decided_not_undecided}
@@ -24,10 +26,12 @@ use Rattle.pc_rule_law.specs.Past.{Has}
 use Rattle.pc_rule_law.proofs.Lists.{all_none, all_one}
 use Rattle.pc_exchange_law.specs.Attempts.{OwnAttempt}
 use Rattle.pc_exchange_law.specs.AttemptSteps.{first_attempt}
-use Rattle.pc_exchange_law.specs.OwnSlots.{IsOfShare, OwnSlots, first_slots, HoldsSpare, HoldsBy, Makes, OwnsSlots, makes_one, MakesOwn, with_spare, with_filled, filled_in, spare_left, slots_cleared, made_by}
+use Rattle.pc_exchange_law.specs.OwnSlots.{IsOfShare, OwnSlots, first_slots, HoldsSpare, HoldsBy, Makes, OwnsSlots, makes_one, MakesOwn, with_spare, with_filled, filled_in, spare_left, still_spare, slots_cleared, made_by}
+use Rattle.pc_exchange_law.specs.SlotCounts.{count_of, node_made, nodes_made}
 use Rattle.pc_exchange_law.specs.TieLaws.{opening_history}
 use Rattle.pc_exchange_law.specs.Ties.{code, seat_in}
 use Rattle.pc_exchange_law.proofs.Codes.{of_code}
+use Rattle.pc_exchange_law.proofs.SlotCounts.{counts, counts_none, made_with, made_none}
 
 -- a slot is of one share
 pub below_next : (shares : List ℕ) (j : ℕ) → slots_below shares j ≤ slots_below shares (suc j)
@@ -78,15 +82,52 @@ module _ (z : Size) (h h' : History) (j : ℕ) (own : OwnAttempt) (o : OwnSlots)
   held_then (committed s) stays holds = stays holds
   held_then (aborted cause) stays holds = holds_then holds
 
--- where slots, stages and exchanges stay
+-- what is left of a spare: none of none; all of one that no attempt makes, or only an undecided one
+none_left : (st : Stage) (b : Bool) → spare_left st b None ≡ None
+none_left absent b = refl
+none_left undecided b = refl
+none_left (committed s) true = refl
+none_left (committed s) false = refl
+none_left (aborted cause) b = refl
+
+pub unnamed_left : (st : Stage) (p : Option ℕ) → spare_left st false p ≡ p
+unnamed_left absent p = refl
+unnamed_left undecided p = refl
+unnamed_left (committed s) p = refl
+unnamed_left (aborted cause) p = refl
+
+undecided_left : (st : Stage) (b : Bool) (p : Option ℕ) → IsUndecided st → spare_left st b p ≡ p
+undecided_left absent b p u = refl
+undecided_left undecided b p u = refl
+undecided_left (committed s) b p u = absurd u
+undecided_left (aborted cause) b p u = refl
+
+-- a count goes on where each part is the same, and where one part gives what the other one gets
+same_count : (n a b c b' c' : ℕ) → n ≡ a + (b + c) → b' ≡ b → c' ≡ c → n ≡ a + (b' + c')
+same_count n a b c b' c' before same same' = omega arith
+
+moved_count : (n a b c b' c' m : ℕ) → n ≡ a + (b + c) → b' + m ≡ b → c' ≡ c + m → n ≡ a + (b' + c')
+moved_count n a b c b' c' m before given got = omega arith
+
+-- a slot that is free once an exchange took effect was free before
+free_before : (f : Option FreshNode) (slot : ℕ → Slot) (n : ℕ) → IsFree (slots_with f slot n) → IsFree (slot n)
+free_before None slot n is = is
+free_before (Some g) slot n is = ⊎_elim (λ here. absurd here.1) (λ other. other.1) (from_updated slot g.node used IsFree n is)
+
+-- where slots, stages and exchanges stay, and the run makes as many nodes
 module _ (z : Size) (h h' : History) (j : ℕ) (own : OwnAttempt) (o : OwnSlots) (was : OwnsSlots z h j own o) where
   pub same_slots : ((n v : ℕ) → HasSpare h n v → HasSpare h' n v)
       → ((n w : ℕ) (f : Field) → IsFilled h n f w → IsFilled h' n f w) → h'.slot ≡ h.slot → h'.stage ≡ h.stage
-      → h'.op ≡ h.op → OwnsSlots z h' j own o
-  same_slots spares filled slots stages ops = record {
+      → h'.op ≡ h.op → nodes_made z j (run_of h'.item h'.clock) ≡ nodes_made z j (run_of h.item h.clock)
+      → OwnsSlots z h' j own o
+  same_slots spares filled slots stages ops made = record {
     begins = was.begins;
+    within = was.within;
     ends = was.ends;
     free = λ n le lt. subst (λ (s : ℕ → Slot). IsFree (s n)) (sym slots) (was.free n le lt);
+    taken = λ n le lt is. was.taken n le lt (subst (λ (s : ℕ → Slot). IsFree (s n)) slots is);
+    counted = same_count _ _ _ _ _ _ was.counted
+        (ap (λ (u : ℕ → Stage). count_of (spare_left (u (code j own.number)) o.named o.spare)) stages) made;
     of_share = was.of_share;
     unnamed = λ n is no. holds_then z h h' j own o n (spares n) (filled n) (was.unnamed n is no);
     named = λ n is yes. let m = was.named n is yes in record {
@@ -111,11 +152,21 @@ module _ (z : Size) (h : History) (rule : Rule h) (x : ℕ) (cause : Cause) (can
   keeps_all : KeepsOwned h failed
   keeps_all = (steps_keep_owned h rule).aborts x cause
 
+  spare_failed : count_of (still_spare failed j own o) ≡ count_of (still_spare h j own o)
+  spare_failed = on_updated h.stage x (aborted cause)
+      (λ (st : Stage). count_of (spare_left st o.named o.spare) ≡ count_of (still_spare h j own o)) (code j own.number)
+      (λ here. ap count_of (sym (undecided_left (h.stage (code j own.number)) o.named o.spare
+      (subst (λ (i : ℕ). IsUndecided (h.stage i)) (sym here) can.undecided))))
+      (λ _. refl)
+
   pub abort_slots : OwnsSlots z failed j own o
   abort_slots = record {
     begins = was.begins;
+    within = was.within;
     ends = was.ends;
     free = was.free;
+    taken = was.taken;
+    counted = same_count _ _ _ _ _ _ was.counted spare_failed refl;
     of_share = was.of_share;
     unnamed = λ n is no. holds_then z h failed j own o n (keeps_all.spares n) (keeps_all.filled n) (was.unnamed n is no);
     named = λ n is yes. let m = was.named n is yes in record {
@@ -167,10 +218,46 @@ module _ (z : Size) (h : History) (rule : Rule h) (x s : ℕ) (can : CanCommit h
       (λ g fresh same. ne (sym (made_own n g is fresh same).1)))
       (h.stage (code j own.number)) (still_used n) m.holds)
 
+  -- what it makes of the share is the spare, which is none any more
+  none_of_share : ((g : FreshNode) → (h.op x).fresh ≡ Some g → seat_in x ≡ j → ⊥) → node_made z j (h.op x).fresh ≡ 0
+  none_of_share other = counts_none z j (h.op x).fresh
+      (λ g fresh share. other g fresh (one_share z (seat_in x) j g.node (made g fresh) share))
+
+  made_spare : (n : ℕ) → o.spare ≡ Some n → Makes h (code j own.number) o n → code j own.number ≡ x
+      → node_made z j (h.op x).fresh ≡ 1
+  made_spare n is m here = counts z j (h.op x).fresh m.fresh (ap (λ (i : ℕ). (h.op i).fresh) (sym here) ∙ m.of_exchange)
+      (subst (IsOfShare z j) (sym m.at_node) (was.of_share n is))
+
+  spare_won : (b : Bool) → o.named ≡ b → (p : Option ℕ) → o.spare ≡ p
+      → count_of (spare_left (won.stage (code j own.number)) b p) + node_made z j (h.op x).fresh
+      ≡ count_of (spare_left (h.stage (code j own.number)) b p)
+  spare_won b named None is =
+      let none = none_of_share (λ g fresh seat. none_not_some g.node (sym is ∙ (was.names x g seat can.undecided fresh).1)) in
+      let before = ap count_of (none_left (h.stage (code j own.number)) b) in
+      let after = ap count_of (none_left (won.stage (code j own.number)) b) in omega arith
+  spare_won false named (Some n) is =
+      let none = none_of_share (λ g fresh seat. let clash : true ≡ false = sym (was.names x g seat can.undecided fresh).0 ∙ named in cc) in
+      let before = ap count_of (unnamed_left (h.stage (code j own.number)) (Some n)) in
+      let after = ap count_of (unnamed_left (won.stage (code j own.number)) (Some n)) in omega arith
+  spare_won true named (Some n) is = ⊎_elim
+      (λ here. let one = made_spare n is (was.named n is named) here in
+      let before = ap count_of (undecided_left (h.stage (code j own.number)) true (Some n)
+      (subst (λ (i : ℕ). IsUndecided (h.stage i)) (sym here) can.undecided)) in
+      let after = ap (λ (st : Stage). count_of (spare_left st true (Some n))) (updated_here h.stage x (committed s) (code j own.number) here) in
+      omega arith)
+      (λ other. let none = none_of_share (λ g fresh seat. other (sym (was.names x g seat can.undecided fresh).2)) in
+      let after = ap (λ (st : Stage). count_of (spare_left st true (Some n))) (updated_other h.stage x (committed s) (code j own.number) other) in
+      omega arith)
+      (cases_eq (code j own.number) x)
+
   pub commit_slots : OwnsSlots z won j own o
   commit_slots = record {
     begins = was.begins;
+    within = was.within;
     ends = was.ends;
+    taken = λ n le lt is. was.taken n le lt (free_before (h.op x).fresh h.slot n is);
+    counted = moved_count _ _ _ _ _ _ _ was.counted (spare_won o.named refl o.spare refl)
+        (made_with z j h.item s (h.op x) (is_empty h rule x s can.undecided can.drew) h.clock can.drew.0);
     free = λ n le lt. let is = was.free n le lt in
         subst IsFree (sym (slots_with-other (h.op x).fresh h.slot n (λ g fresh same. free_not_spare (h.slot n) is
         (subst (λ (i : ℕ). IsSpare (h.slot i)) (sym same) (rule.fresh x g can.undecided fresh).is_spare)))) is;
@@ -203,10 +290,16 @@ module _ (z : Size) (h : History) (rule : Rule h) (id n : ℕ) (is_free : IsFree
   free_taken : (m : ℕ) → m ≢ n → IsFree (h.slot m) → IsFree (taken.slot m)
   free_taken m ne is = subst IsFree (sym (updated_other h.slot n spare m ne)) is
 
+  still_free : (m : ℕ) → IsFree (taken.slot m) → (m ≢ n) × IsFree (h.slot m)
+  still_free m is = ⊎_elim (λ here. absurd here.1) (λ other. other) (from_updated h.slot n spare IsFree m is)
+
   pub take_others : (j : ℕ) (own : OwnAttempt) (o : OwnSlots) → j ≢ id → OwnsSlots z h j own o → OwnsSlots z taken j own o
   take_others j own o ne was = record {
     begins = was.begins;
+    within = was.within;
     ends = was.ends;
+    taken = λ m le lt is. was.taken m le lt (still_free m is).1;
+    counted = was.counted;
     free = λ m le lt. free_taken m (λ same. let begins = was.begins in let ends = was.ends in
         ne (one_share z j id m (omega arith, omega arith) (subst (IsOfShare z id) (sym same) mine))) (was.free m le lt);
     of_share = was.of_share;
@@ -223,12 +316,17 @@ module _ (z : Size) (h : History) (rule : Rule h) (id n : ℕ) (is_free : IsFree
   }
 
   -- it is the next one of the share, and its version is this one
-  pub take_own : (own : OwnAttempt) (o : OwnSlots) (v : ℕ) → own.busy ≡ false → n ≡ o.next → h.plain n Version ≡ v
+  pub take_own : (own : OwnAttempt) (o : OwnSlots) (v : ℕ) → own.busy ≡ false → o.spare ≡ None → n ≡ o.next → h.plain n Version ≡ v
       → cells_now h n Version ≡ v → OwnsSlots z h id own o → OwnsSlots z taken id own (with_spare o v)
-  take_own own o v rests next plain now was =
+  take_own own o v rests none next plain now was =
       let is_spare : IsSpare (taken.slot n) = subst IsSpare (sym (updated_here h.slot n spare n refl)) tt in record {
         begins = let before = was.begins in omega arith;
+        within = let ends = was.ends in let inside = mine.1 in omega arith;
         ends = was.ends;
+        taken = λ m le lt is. let still = still_free m is in was.taken m le (let other = still.0 in omega arith) still.1;
+        counted = let before = was.counted in
+            let had = ap count_of (ap (spare_left (h.stage (code id own.number)) o.named) none ∙ none_left (h.stage (code id own.number)) o.named) in
+            let has = ap count_of (unnamed_left (h.stage (code id own.number)) (Some o.next)) in omega arith;
         free = λ m le lt. free_taken m (λ same. omega arith) (was.free m (omega arith) lt);
         of_share = λ m is. subst (IsOfShare z id) (next ∙ same_option (Some o.next) o.next m refl is) mine;
         unnamed = λ m is _. subst (HoldsSpare taken (with_spare o v)) (next ∙ same_option (Some o.next) o.next m refl is) record {
@@ -255,8 +353,11 @@ module _ (z : Size) (h : History) (rule : Rule h) (id n : ℕ) (f : Field) (v : 
       let apart : (m : ℕ) → o.spare ≡ Some m → m ≢ n = λ m is same. ne (one_share z j id m (was.of_share m is)
       (subst (IsOfShare z id) (sym same) mine)) in record {
         begins = was.begins;
+        within = was.within;
         ends = was.ends;
         free = was.free;
+        taken = was.taken;
+        counted = was.counted;
         of_share = was.of_share;
         unnamed = λ m is no. holds_then z h filled_so j own o m (λ w. owned_too.fills_spares n f v m w)
             (λ w g. owned_too.fills_filled n f v m w g (λ same. absurd (apart m is same))) (was.unnamed m is no);
@@ -295,8 +396,11 @@ module _ (z : Size) (h : History) (rule : Rule h) (id n : ℕ) (f : Field) (v : 
     pub fill_own : OwnsSlots z filled_so id own (with_filled o f v)
     fill_own = record {
       begins = was.begins;
+      within = was.within;
       ends = was.ends;
       free = was.free;
+      taken = was.taken;
+      counted = was.counted;
       of_share = was.of_share;
       unnamed = λ m is _. subst (HoldsSpare filled_so (with_filled o f v)) (same_option o.spare n m is_spare is) record {
         spare = owned_too.fills_spares n f v n o.version spare_was.spare;
@@ -324,8 +428,13 @@ module _ (z : Size) (h : History) (rule : Rule h) (id a : ℕ) (e : Exchange) (c
   publish_slots j own o low ne was =
       let apart : (i : ℕ) → code j i ≢ x = λ i same. ne (sym (of_code j i low) ∙ (ap seat_in same ∙ of_code id a small)) in record {
         begins = was.begins;
+        within = was.within;
         ends = was.ends;
         free = was.free;
+        taken = was.taken;
+        counted = same_count _ _ _ _ _ _ was.counted
+            (ap (λ (st : Stage). count_of (spare_left st o.named o.spare))
+            (updated_other h.stage x undecided (code j own.number) (apart own.number))) refl;
         of_share = was.of_share;
         unnamed = λ n is no. holds_then z h out j own o n (keeps_out.spares n) (keeps_out.filled n) (was.unnamed n is no);
         named = λ n is yes. let m = was.named n is yes in record {
@@ -376,8 +485,14 @@ module _ (z : Size) (h : History) (rule : Rule h) (id a : ℕ) (e : Exchange) (c
     pub publish_own : OwnsSlots z out id next o'
     publish_own = record {
       begins = was.begins;
+      within = was.within;
       ends = was.ends;
       free = was.free;
+      taken = was.taken;
+      counted = same_count _ _ _ _ _ _ was.counted
+          (ap (λ (st : Stage). count_of (spare_left st o'.named o.spare)) (updated_here h.stage x undecided (code id next.number) at_next)
+          ∙ ap count_of (sym (ap (λ (b : Bool). spare_left (h.stage (code id own.number)) b o.spare) (was.rests rests)
+          ∙ unnamed_left (h.stage (code id own.number)) o.spare))) refl;
       of_share = was.of_share;
       unnamed = λ n is _. spare_after n is;
       named = λ n is yes. let m = makes_spare e.fresh makes yes n is in record {
@@ -402,8 +517,12 @@ pub rewritten : (z : Size) (h : History) (j : ℕ) (own : OwnAttempt) (o : OwnSl
     → next.number ≡ own.number → (next.busy ≡ false → own.busy ≡ false) → OwnsSlots z h j next o
 rewritten z h j own o was next number rests = record {
   begins = was.begins;
+  within = was.within;
   ends = was.ends;
   free = was.free;
+  taken = was.taken;
+  counted = same_count _ _ _ _ _ _ was.counted
+      (ap (λ (i : ℕ). count_of (spare_left (h.stage (code j i)) o.named o.spare)) number) refl;
   of_share = was.of_share;
   unnamed = was.unnamed;
   named = λ n is named. subst (λ (i : ℕ). Makes h (code j i) o n) (sym number) (was.named n is named);
@@ -437,8 +556,13 @@ module _ (z : Size) (h : History) (id : ℕ) (own : OwnAttempt) (o : OwnSlots) (
   pub clear_own : OwnsSlots z h id (record own { busy = false }) (slots_cleared o st)
   clear_own = record {
     begins = was.begins;
+    within = was.within;
     ends = was.ends;
     free = was.free;
+    taken = was.taken;
+    counted = same_count _ _ _ _ _ _ was.counted
+        (ap count_of (unnamed_left (h.stage (code id own.number)) (spare_left st o.named o.spare)
+        ∙ ap (λ (u : Stage). spare_left u o.named o.spare) (sym told.0))) refl;
     of_share = λ n is. was.of_share n (left_spare st o.named o.spare n is);
     unnamed = λ n is _. let s = spare_then o.named refl n is in record { spare = s.spare; raised = s.raised; filled = s.filled };
     named = λ n is no. absurd (let clash : false ≡ true = no in cc);
@@ -468,8 +592,11 @@ free_above n le = grind (arith, nat_tests)
 pub slots_open : (z : Size) (cells : Cells) (start j : ℕ) → OwnsSlots z (opening_history cells start) j (first_attempt z.starts.attempt) (first_slots z j)
 slots_open z cells start j = record {
   begins = omega arith;
-  ends = omega arith;
+  within = let le = below_next z.shares j in subst (λ (i : ℕ). start_of z j ≤ start_of z i) (let e : suc j ≡ j + 1 = omega arith in e) (omega arith);
+  ends = refl;
   free = λ n le lt. free_above n (omega arith);
+  taken = λ n le lt. absurd (omega arith);
+  counted = let none = made_none z j start in omega arith;
   of_share = λ n is. absurd (none_not_some n is);
   unnamed = λ n is. absurd (none_not_some n is);
   named = λ n is. absurd (none_not_some n is);

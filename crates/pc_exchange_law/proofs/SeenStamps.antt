@@ -22,9 +22,10 @@ seen_below h r told so = record {
   stamps = λ t seen. ⊎_elim (λ drawn. (so (drew drawn.0 t) drawn.1).0)
       (⊎_elim (λ won. (r.standing won.0 t (so (verdict won.0 (committed t)) won.1).0).0.0)
       (λ read. stands_below h r t read.0 (so (in_run t read.0) read.1))) seen;
+  reads = λ n v x b f has. (so (read_word n v f x b) has).0;
 }
 
--- a verdict, and any note, tells of no stamp from r on, and of no clock above
+-- a verdict, and any note, tells of no stamp from r on, and of no clock and no moment of a read above
 abbrev IsBefore : Stage → ℕ → Type 0
 IsBefore absent r = Unit {0}
 IsBefore undecided r = Unit {0}
@@ -34,7 +35,7 @@ IsBefore (aborted cause) r = Unit {0}
 abbrev pub IsNotAbove : RunNote → ℕ → Type 0
 IsNotAbove (clock_was c) r = c ≤ r
 IsNotAbove (visited n v c) r = Unit {0}
-IsNotAbove (read_word n v f x c) r = Unit {0}
+IsNotAbove (read_word n v f x c) r = c ≤ r
 IsNotAbove (saw c e) r = Unit {0}
 IsNotAbove (looked s n f) r = Unit {0}
 IsNotAbove (published x e c) r = Unit {0}
@@ -52,6 +53,7 @@ none_above r = record {
   clock = λ c has. absurd (none_has (clock_was c) has);
   stamps = λ t seen. ⊎_elim (λ drawn. absurd (none_has (drew drawn.0 t) drawn.1))
       (⊎_elim (λ won. absurd (none_has (verdict won.0 (committed t)) won.1)) (λ read. absurd (none_has (in_run t read.0) read.1))) seen;
+  reads = λ n v x b f has. absurd (none_has (read_word n v f x b) has);
 }
 
 -- a note that is found in front, or behind
@@ -71,6 +73,8 @@ above_more n told r is above = record {
       (λ read. ⊎_elim (λ e. subst (λ (m : RunNote). IsNotAbove m r) e is) (λ has. above.stamps t (inr (inr (read.0, has))))
       (front_or_behind n told (in_run t read.0) read.1)))
       seen;
+  reads = λ m v x b f has. ⊎_elim (λ e. subst (λ (k : RunNote). IsNotAbove k r) e is) (above.reads m v x b f)
+      (front_or_behind n told (read_word m v f x b) has);
 }
 
 -- so it is behind a load of the clock, with what that tells

@@ -1,5 +1,5 @@
 -- The run of a tied board: its list, and that it leaves the cells, which are sound where each exchange fits.
-use Rattle.std.proofs.Common.{◌≡◌, ℕ, ◌<◌, inl, inr, ⊎_elim, [], None, Some, refl, sym, ap, ◌∙◌, subst}
+use Rattle.std.proofs.Common.{◌≡◌, ℕ, ◌<◌, inl, inr, ⊎_elim, [], None, Some, refl, sym, ap, ◌∙◌, subst, arith}
 use Rattle.pc_model.specs.declared.cell.Field.{Field}
 use Rattle.pc_model.specs.Exchanges.{Exchange as PathExchange}
 use Rattle.pc_model.specs.Forms.{Form, IsSound, Fits}
@@ -86,6 +86,7 @@ module _ (b : Board) (t : Past) (h : History) (rule : Rule h) (tied : IsTied b t
   run_tells = record {
     world = is_list.world;
     below = λ x among. subst (λ (c : ℕ). x.stamp < c) tied.clock (is_list.only x among).0;
+    before = λ x among. is_list.before x.stamp (let below = (is_list.only x among).0 in omega arith);
     each = of_run;
     made = made_at;
     unmade = unmade_at;

@@ -130,7 +130,7 @@ module _ (form : Form) (z : Size) where
       let more : List Note = extra ++ seen in
       let leads : List RunNote = leads_by form z f w in let told : List RunNote = leads ++ told_too in
       let learnt = word_seen form z b t h late views k id x.knows known n f is_used in
-      let y : Whole = record { view = with_notes x.view more; knows = with_more learnt.0 [] told; aim = x.aim; path = p } in
+      let y : Whole = record { view = with_notes x.view more; knows = with_more learnt.0 [] told; aim = x.aim; path = p; taken = x.taken } in
       let same : kind (raw w) ≡ w = kind_raw w in_range in
       let truly : kind (raw w) ≢ Exchange x.view.seat a → IsFoundCalm x.knows x.view.seat a n f (kind (raw w))
       → Has cleaned.0 (clean x.view.seat a n f) = λ other calmed.
@@ -146,7 +146,7 @@ module _ (form : Form) (z : Size) where
             (found_holds (CellsAreSound form) z b t s n f w refl in_p in_range (s.each_cell n f)))))
             (more_known z.slots b t t.words h late id learnt.0 learnt.2 [] told (all_none (IsTrueAttemptNote b t t.words))
             (all_both (IsTrueNote h) leads told_too (leads_true form z b t h late views k n f is_used w refl) truly_told))
-            (learnt.1.learns.own, learnt.1.learns.slots) path,
+            (learnt.1.learns.own, learnt.1.learns.slots, refl) path,
         (
           (refl, refl, refl, refl, refl),
           record {

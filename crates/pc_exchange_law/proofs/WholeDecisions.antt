@@ -105,7 +105,7 @@ module _ (form : Form) (z : Size) where
         only = only_status b p (at_stage b p stage);
         is = ap packed here;
         kept = whole_goes form z b t h late views k id x at live b' t' h' late y (decided_below p (a + 1) ∷ []) step owned
-            (refl, refl, refl, refl) refl
+            (refl, refl, refl, refl) refl refl
             (subst (λ (c : ℕ → ℕ → ℕ). Own z b.install c id y.view) (sym course)
             (record { sized = own.sized; seated = own.seated; known = own.known; ahead = own.ahead; unplaced = own.unplaced }))
             (λ no. let was = (mine form z b t h late views k id x at live).tries live no in

@@ -55,7 +55,7 @@ module _ (form : Form) (z : Size) where
         late = late';
         only = only_clock b (suc b.clock);
         is = next_clock b.clock (clock_ends.fits z.seats b.clock late k.kept.few k.world.clock);
-        kept = whole_goes form z b t h late views k id x at live b' t h' late' y [] step owned (refl, refl, refl, refl) refl
+        kept = whole_goes form z b t h late views k id x at live b' t h' late' y [] step owned (refl, refl, refl, refl) refl refl
             (record { sized = own.sized; seated = own.seated; known = own.known; ahead = own.ahead; unplaced = own.unplaced })
             (λ no. let was = (mine form z b t h late views k id x at live).tries live no in (
               was.0,

@@ -225,7 +225,7 @@ module _ (form : Form) (z : Size) (id n : ℕ) (f : Field) (v : ℕ) (x : Whole)
     is = ap raw (put_cell-here b.cell n f (Plain v));
     kept = whole_goes form z b t h late views k id x at live b' t' h' late after [] (goes, known_after)
         (fill_own z h k.world.rule id n f v mine_so x.knows.own x.knows.slots may.rests may.is_spare may.version own_slots)
-        (refl, refl, refl, refl) refl
+        (refl, refl, refl, refl) refl refl
         (record { sized = own.sized; seated = own.seated; known = own.known; ahead = own.ahead; unplaced = own.unplaced })
         (λ no. let was = (mine form z b t h late views k id x at live).tries live no in (
           was.0,

@@ -5,10 +5,10 @@ use lib.ListN.{get_elem?}
 use Rattle.atomic_table.proofs.Lists.{at_map}
 use Rattle.pc_model.specs.Forms.{Form}
 use Rattle.pc_rule_law.specs.Board.{Size, Board, descriptor_words}
-use Rattle.pc_rule_law.specs.Past.{Past, Describes}
+use Rattle.pc_rule_law.specs.Past.{Has, Past, Describes}
 use Rattle.pc_rule_law.specs.Stages.{IsIdle}
 use Rattle.pc_rule_law.specs.Views.{Note, View, NoteHolds, AllNotes}
-use Rattle.pc_rule_law.specs.Rule.{Own, OwnTries, Known, Kept}
+use Rattle.pc_rule_law.specs.Rule.{Each, Own, OwnTries, Known, Kept}
 use Rattle.pc_rule_law.proofs.Keeping.{kept_after}
 use Rattle.pc_rule_law.proofs.Lists.{each_moved, below_length}
 use Rattle.pc_protocol.specs.Histories.{History}
@@ -21,7 +21,7 @@ use Rattle.pc_exchange_law.specs.Ties.{CellsAreSound}
 use Rattle.pc_exchange_law.specs.ExchangeLaws.{Comes, ExchangeStepsGoOn}
 use Rattle.pc_exchange_law.specs.Passes.{PassKnows, IsKnown}
 use Rattle.pc_exchange_law.specs.Paths.{IsPathOf}
-use Rattle.pc_exchange_law.specs.Wholes.{Whole, views_of, knows_nothing, WholeKept}
+use Rattle.pc_exchange_law.specs.Wholes.{SlotsAt, Whole, IsTakenIn, views_of, knows_nothing, WholeKept}
 use Rattle.pc_exchange_law.proofs.AttemptNotes.{attempt_note_stays, attempt_stays}
 use Rattle.pc_exchange_law.proofs.ExchangeLaws.{comes, exchange_steps_go_on}
 use Rattle.pc_exchange_law.proofs.Paths.{path_stays}
@@ -91,9 +91,30 @@ module _ (form : Form) (z : Size) (b : Board) (t : Past) (h : History) (late : �
   made j y at_j = subst (λ (c : ℕ). j < c) k.kept.counted
       (below_length (views_of views) j y.view (at_map (λ (u : Whole). u.view) views j y at_j))
 
+  -- passes that were taken in are others, so what they have of slots stays
+  taken_still : (t' : Past) (h' : History) → ((j : ℕ) → t'.live j ≡ t.live j)
+      → ((j : ℕ) (a : OwnAttempt) (o : OwnSlots) → j < 64 → j ≢ id → OwnsSlots z h j a o → OwnsSlots z h' j a o)
+      → (s : SlotsAt) → IsTakenIn z t h s → IsTakenIn z t' h' s
+  taken_still t' h' lives stays s was = record {
+    seated = was.seated;
+    joined = lives s.seat ∙ was.joined;
+    owned = stays s.seat s.own s.slots (let few : z.seats ≤ 32 = k.kept.few in let lt = was.seated in omega arith)
+        (λ same. let here : t.live id ≡ true = sym mine.counted.live_is ∙ live in
+        absurd (let clash : true ≡ false = sym here ∙ (ap t.live (sym same) ∙ was.joined) in cc)) was.owned;
+  }
+
+  pub taken_kept : (t' : Past) (h' : History) (y : Whole) → ((j : ℕ) → t'.live j ≡ t.live j) → y.taken ≡ x.taken
+      → ((j : ℕ) (a : OwnAttempt) (o : OwnSlots) → j < 64 → j ≢ id → OwnsSlots z h j a o → OwnsSlots z h' j a o)
+      → Each (set views id y) (λ j u. u.view.live ≡ true → (s : SlotsAt) → Has u.taken s → IsTakenIn z t' h' s)
+  taken_kept t' h' y lives same stays = each_moved views id y
+      (λ j u. u.view.live ≡ true → (s : SlotsAt) → Has u.taken s → IsTakenIn z t h s)
+      (λ j u. u.view.live ≡ true → (s : SlotsAt) → Has u.taken s → IsTakenIn z t' h' s) k.taken
+      (λ _ s has. taken_still t' h' lives stays s (k.taken id x at live s (subst (λ (l : List SlotsAt). Has l s) same has)))
+      (λ j u _ _ was alive s has. taken_still t' h' lives stays s (was alive s has))
+
   -- a look: the rule of installs holds with a later view, and it is so what the pass knows and has visited then
   pub whole_looked : (y : Whole) → Kept (CellsAreSound form) z b t (set (views_of views) id y.view)
-      → IsKnown b t t.words h late id y.knows → (y.knows.own ≡ x.knows.own) × (y.knows.slots ≡ x.knows.slots) → IsPathOf h id y.path
+      → IsKnown b t t.words h late id y.knows → (y.knows.own ≡ x.knows.own) × (y.knows.slots ≡ x.knows.slots) × (y.taken ≡ x.taken) → IsPathOf h id y.path
       → WholeKept form z b t h late (set views id y)
   whole_looked y kept known same path = record {
     kept = subst (Kept (CellsAreSound form) z b t) (sym (views_set views id y)) kept;
@@ -106,6 +127,7 @@ module _ (form : Form) (z : Size) (b : Board) (t : Past) (h : History) (late : �
         (λ j u. u.view.live ≡ true → OwnsSlots z h j u.knows.own u.knows.slots) k.owned
         (λ _. subst (λ (i : OwnAttempt × OwnSlots). OwnsSlots z h id i.0 i.1) (λ i. (sym same.0 i, sym same.1 i)) owned_here)
         (λ j u _ _ was. was);
+    taken = taken_kept t h y (λ j. refl) same.2 (λ j a o _ _ was. was);
     unmade = k.unmade;
     unowned = k.unowned;
     none_given = k.none_given;
@@ -114,9 +136,10 @@ module _ (form : Form) (z : Size) (b : Board) (t : Past) (h : History) (late : �
   -- any other step of the pass
   pub whole_after : (b' : Board) (t' : Past) (h' : History) (late' : ℕ → Bool) (y : Whole)
       → Kept (CellsAreSound form) z b' t' (set (views_of views) id y.view) → t'.count ≡ t.count → t'.posted ≡ t.posted
+      → ((j : ℕ) → t'.live j ≡ t.live j) → y.taken ≡ x.taken
       → Comes form z id b t t.words h late b' t' t'.words h' late' y.knows → IsPathOf h' id y.path
       → WholeKept form z b' t' h' late' (set views id y)
-  whole_after b' t' h' late' y kept count posted c path = let few : z.seats ≤ 32 = k.kept.few in
+  whole_after b' t' h' late' y kept count posted lives same c path = let few : z.seats ≤ 32 = k.kept.few in
       let room : t.count ≤ z.seats = k.kept.room in record {
         kept = subst (Kept (CellsAreSound form) z b' t') (sym (views_set views id y)) kept;
         world = c.world;
@@ -130,6 +153,7 @@ module _ (form : Form) (z : Size) (b : Board) (t : Past) (h : History) (late : �
         owned = each_moved views id y (λ j u. u.view.live ≡ true → OwnsSlots z h j u.knows.own u.knows.slots)
             (λ j u. u.view.live ≡ true → OwnsSlots z h' j u.knows.own u.knows.slots) k.owned (λ _. c.owned)
             (λ j u ne at_j was alive. c.stays j u.knows.own u.knows.slots (let lt = made j u at_j in omega arith) ne (was alive));
+        taken = taken_kept t' h' y lives same c.stays;
         unmade = λ j le lt. let old : t.count ≤ j = subst (λ (i : ℕ). i ≤ j) count le in
             known_after form z id b t t.words h late b' t' t'.words h' late' y.knows c j (knows_nothing z j)
             (omega arith) (λ e. let below = made id x at in absurd (omega arith)) (k.unmade j old lt);
@@ -144,12 +168,12 @@ module _ (form : Form) (z : Size) (b : Board) (t : Past) (h : History) (late : �
       → Goes form z id b t t.words h late b' t' t'.words h' late' × IsKnown b' t' t'.words h' late' id y.knows
       → OwnsSlots z h' id y.knows.own y.knows.slots
       → (y.view.live ≡ x.view.live) × (y.view.seat ≡ x.view.seat) × (y.view.last ≡ x.view.last)
-      × (y.view.rest ≡ x.view.rest)
+      × (y.view.rest ≡ x.view.rest) → y.taken ≡ x.taken
       → y.view.notes ≡ more ++ x.view.notes → Own z b'.install t'.course id y.view
       → (y.view.posted ≡ false → (t'.posted ≡ false) × OwnTries z.slots b' id y.view.attempt)
       → AllNotes (NoteHolds z b' t') more → IsPathOf h' id y.path
       → WholeKept form z b' t' h' late' (set views id y)
-  whole_goes b' t' h' late' y more step owned same notes own tries noted path = whole_after b' t' h' late' y
+  whole_goes b' t' h' late' y more step owned same same_taken notes own tries noted path = whole_after b' t' h' late' y
       (kept_after (CellsAreSound form) z b t (views_of views) id x.view b' t' y.view more k.kept at_view live record {
         same = same;
         notes = notes;
@@ -159,5 +183,5 @@ module _ (form : Form) (z : Size) (b : Board) (t : Past) (h : History) (late : �
         own = own;
         tries = tries;
         noted = noted;
-      }) step.0.leaves.count step.0.leaves.posted
+      }) step.0.leaves.count step.0.leaves.posted step.0.leaves.lives same_taken
       (comes form z id b t t.words h late b' t' t'.words h' late' y.knows step owned) path

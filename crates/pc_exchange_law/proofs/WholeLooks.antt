@@ -64,7 +64,7 @@ module _ (form : Form) (z : Size) where
         y,
         whole_looked form z b t h late views k id x at live y low.1
             ((tells b t h late views k id x.knows (known_here form z b t h late views k id x at live)).clock (read_of x.path) e.0
-            (path_here form z b t h late views k id x at live).noted e.1) (refl, refl) (path_here form z b t h late views k id x at live),
+            (path_here form z b t h late views k id x at live).noted e.1) (refl, refl, refl) (path_here form z b t h late views k id x at live),
         (
           low.2.0,
           (
@@ -101,7 +101,7 @@ module _ (form : Form) (z : Size) where
       (at_view form z b t h late views k id x at live) in
       let learnt = (tells b t h late views k id x.knows (known_here form z b t h late views k id x at live)).descriptor p place in
       let y : Whole = record x { view = low.0; knows = learnt.0 } in
-      (y, whole_looked form z b t h late views k id x at live y low.1 learnt.2 (learnt.1.learns.own, learnt.1.learns.slots) (path_here form z b t h late views k id x at live), (low.2.0, (low.2.1, learnt.1, refl, refl)))
+      (y, whole_looked form z b t h late views k id x at live y low.1 learnt.2 (learnt.1.learns.own, learnt.1.learns.slots, refl) (path_here form z b t h late views k id x at live), (low.2.0, (low.2.1, learnt.1, refl, refl)))
 
   pub whole_load_word : (slots id : ℕ) (me : WholeMine) (p place : ℕ) → me.0.view.size ≡ z → me.0.view.live ≡ true
       → Inside z (at_own p (own_word place))
@@ -127,10 +127,10 @@ module _ (form : Form) (z : Size) where
       let low = status_looks (CellsAreSound form) z id x.view p live in_p b t (views_of views) k.kept
       (at_view form z b t h late views k id x at live) in
       let learnt = (tells b t h late views k id x.knows (known_here form z b t h late views k id x at live)).status p (omega arith) in
-      let y : Whole = record { view = low.0; knows = learnt.0; aim = (p, (b.status p).number); path = x.path } in
+      let y : Whole = record { view = low.0; knows = learnt.0; aim = (p, (b.status p).number); path = x.path; taken = x.taken } in
       let same : unpacked (packed (b.status p)) ≡ b.status p = unpacked_packed (b.status p) (k.kept.shared.statuses p) in (
         y,
-        whole_looked form z b t h late views k id x at live y low.1 learnt.2 (learnt.1.learns.own, learnt.1.learns.slots) (path_here form z b t h late views k id x at live),
+        whole_looked form z b t h late views k id x at live y low.1 learnt.2 (learnt.1.learns.own, learnt.1.learns.slots, refl) (path_here form z b t h late views k id x at live),
         (
           low.2.0,
           (
@@ -161,7 +161,7 @@ module _ (form : Form) (z : Size) where
       (at_view form z b t h late views k id x at live) in
       let y : Whole = record x { view = low.0 } in (
         y,
-        whole_looked form z b t h late views k id x at live y low.1 (known_here form z b t h late views k id x at live) (refl, refl) (path_here form z b t h late views k id x at live),
+        whole_looked form z b t h late views k id x at live y low.1 (known_here form z b t h late views k id x at live) (refl, refl, refl) (path_here form z b t h late views k id x at live),
         (low.2.0, (low.2.1, refl, refl, refl)),
       )
 

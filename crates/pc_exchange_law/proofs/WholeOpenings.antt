@@ -6,10 +6,10 @@ use Rattle.pc_model.specs.Forms.{Form, IsSound}
 use Rattle.pc_model.specs.Linked.{opening_cells}
 use Rattle.pc_rule_law.specs.Board.{Size, Board, Represents}
 use Rattle.pc_rule_law.specs.Openings.{MayOpen, opening_board, opening_attempt, opening_words}
-use Rattle.pc_rule_law.specs.Past.{Past}
+use Rattle.pc_rule_law.specs.Past.{Has, Past}
 use Rattle.pc_rule_law.specs.Seats.{opening_past}
 use Rattle.pc_rule_law.proofs.Openings.{no_words, may_open}
-use Rattle.pc_rule_law.proofs.Lists.{each_one}
+use Rattle.pc_rule_law.proofs.Lists.{all_none, each_one}
 use Rattle.pc_rule_law.proofs.Seats.{opens}
 use Rattle.pc_protocol.specs.Histories.{History}
 use Rattle.pc_exchange_law.specs.AttemptSteps.{no_scripts}
@@ -19,7 +19,7 @@ use Rattle.pc_exchange_law.specs.Paths.{IsPathOf}
 use Rattle.pc_exchange_law.specs.Ties.{last_stamp, CellsAreSound}
 use Rattle.pc_exchange_law.specs.TieLaws.{opening_history}
 use Rattle.pc_exchange_law.specs.WholeSeats.{first_whole}
-use Rattle.pc_exchange_law.specs.Wholes.{knows_nothing, WholeKept, WholeHolds}
+use Rattle.pc_exchange_law.specs.Wholes.{SlotsAt, IsTakenIn, knows_nothing, WholeKept, WholeHolds}
 use Rattle.pc_exchange_law.specs.OwnSlots.{OwnsSlots}
 use Rattle.pc_exchange_law.specs.Slots.{SoundIsLinked}
 use Rattle.pc_exchange_law.proofs.OwnSlots.{slots_open}
@@ -65,6 +65,8 @@ module _ (form : Form) (z : Size) where
     paths = each_one (first_whole z) (λ j u. u.view.live ≡ true → IsPathOf h0 j u.path) (λ _. empty_path h0 0 false);
     owned = each_one (first_whole z) (λ j u. u.view.live ≡ true → OwnsSlots z h0 j u.knows.own u.knows.slots)
         (λ _. slots_open z cells z.starts.stamp 0);
+    taken = each_one (first_whole z) (λ j u. u.view.live ≡ true → (s : SlotsAt) → Has u.taken s → IsTakenIn z t0 h0 s)
+        (λ _. all_none (IsTakenIn z t0 h0));
     unmade = λ j _ _. known0 j;
     unowned = λ j _ _. slots_open z cells z.starts.stamp j;
     none_given = refl;

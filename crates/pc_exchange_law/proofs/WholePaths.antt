@@ -99,7 +99,7 @@ module _ (form : Form) (z : Size) where
     y,
     whole_looked form z b t h late views k id x at live y
         (noted_more (CellsAreSound form) z b t (views_of views) id x.view [] k.kept (at_view form z b t h late views k id x at live)
-        live (all_none (NoteHolds z b t))) (known_here form z b t h late views k id x at live) (refl, refl) (is_path h),
+        live (all_none (NoteHolds z b t))) (known_here form z b t h late views k id x at live) (refl, refl, refl) (is_path h),
     ((refl, refl, refl, refl, refl), refl),
   )
 

@@ -35,7 +35,7 @@ use Rattle.pc_protocol.proofs.Reading as Reading
 use Rattle.pc_protocol.proofs.Reading.{read_keeps}
 use Rattle.pc_protocol.proofs.Stages.{used_not_spare}
 use Rattle.pc_exchange_law.proofs.SeenStamps.{seen_below}
-use Rattle.pc_exchange_law.specs.Attempts.{Scripts}
+use Rattle.pc_exchange_law.specs.Attempts.{Scripts, OwnAttempt}
 use Rattle.pc_exchange_law.specs.Changes.{with_next_stamp}
 use Rattle.pc_exchange_law.specs.Knowing.{with_more, Learns, IsAboveSeen, after_read_draw, after_refusal}
 use Rattle.pc_exchange_law.specs.Passes.{PassKnows, IsKnown}
@@ -52,10 +52,11 @@ use Rattle.pc_exchange_law.proofs.SeenPaths.{paths_still}
 use Rattle.pc_exchange_law.proofs.WholeCells.{cell_looks_on}
 use Rattle.pc_exchange_law.proofs.WholeDraws.{drawn}
 use Rattle.pc_exchange_law.proofs.OwnSlots.{same_slots}
+use Rattle.pc_exchange_law.proofs.SlotCounts.{made_by_read}
 use Rattle.pc_exchange_law.proofs.Slots.{take_read_slots}
 use Rattle.pc_exchange_law.proofs.Worlds.{linked_now}
-use Rattle.pc_exchange_law.specs.OwnSlots.{OwnsSlots}
-use Rattle.pc_exchange_law.proofs.WholeKeeping.{views_set, at_view, mine, own_here, known_here, owned_here, steps_here, path_here, path_kept}
+use Rattle.pc_exchange_law.specs.OwnSlots.{OwnSlots, OwnsSlots}
+use Rattle.pc_exchange_law.proofs.WholeKeeping.{taken_kept, views_set, at_view, mine, own_here, known_here, owned_here, steps_here, path_here, path_kept}
 use Rattle.pc_exchange_law.proofs.WholeLooks.{plain_there}
 use Rattle.pc_exchange_law.proofs.WholeSteps.{WholeGoes, WholeOwes, whole_allowed}
 use Rattle.pc_exchange_law.proofs.WordsSeen.{seen_still}
@@ -193,9 +194,9 @@ module _ (form : Form) (z : Size) where
       told = all_more (IsTrueNote h') (in_run s e) x.knows.told (updated_here h.item s (Some e) s refl) known.told;
     }
 
-    owned_then : (j : ℕ) (u : PassKnows) → OwnsSlots z h j u.own u.slots → OwnsSlots z h' j u.own u.slots
-    owned_then j u was = same_slots z h h' j u.own u.slots was (λ n v. (steps_keep_owned h k.world.rule).reads_spares id s e n v can)
-        (λ n w f. (steps_keep_owned h k.world.rule).reads_filled s e n w f) refl refl refl
+    read_slots : (j : ℕ) (a : OwnAttempt) (o : OwnSlots) → OwnsSlots z h j a o → OwnsSlots z h' j a o
+    read_slots j a o was = same_slots z h h' j a o was (λ n v. (steps_keep_owned h k.world.rule).reads_spares id s e n v can)
+        (λ n w f. (steps_keep_owned h k.world.rule).reads_filled s e n w f) refl refl refl (made_by_read z j h id s e can)
 
     -- no other pass drew this stamp
     other_stamps : (j r : ℕ) → j ≢ id → IsUnread h j r → IsUnread h' j r
@@ -217,10 +218,12 @@ module _ (form : Form) (z : Size) where
           (λ j u ne at_j was alive. path_stays h h' keeps j u.path (was alive) (λ r. other_stamps j r ne));
       owned = each_moved views id after_taking (λ j u. u.view.live ≡ true → OwnsSlots z h j u.knows.own u.knows.slots)
           (λ j u. u.view.live ≡ true → OwnsSlots z h' j u.knows.own u.knows.slots) k.owned
-          (λ _. owned_then id x.knows (owned_here form z b t h late views k id x at live))
-          (λ j u ne at_j was alive. owned_then j u.knows (was alive));
+          (λ _. read_slots id x.knows.own x.knows.slots (owned_here form z b t h late views k id x at live))
+          (λ j u ne at_j was alive. read_slots j u.knows.own u.knows.slots (was alive));
+      taken = taken_kept form z b t h late views k id x at live t h' after_taking (λ j. refl) refl
+          (λ j a o _ _ was. read_slots j a o was);
       unmade = λ j le lt. known_then j _ (k.unmade j le lt);
-      unowned = λ j le lt. owned_then j (knows_nothing z j) (k.unowned j le lt);
+      unowned = λ j le lt. read_slots j (knows_nothing z j).own (knows_nothing z j).slots (k.unowned j le lt);
       none_given = k.none_given;
     }
 

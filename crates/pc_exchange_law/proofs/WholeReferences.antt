@@ -105,7 +105,7 @@ module _ (form : Form) (z : Size) where
         is = ap raw here;
         kept = whole_goes form z b t h late views k id x at live b' t h' late y more (step.0, learnt.2)
             (subst (λ (i : OwnAttempt × OwnSlots). OwnsSlots z h' id i.0 i.1) (λ i. (sym learnt.1.learns.own i, sym learnt.1.learns.slots i))
-            ((steps_here form z b t h late views k id x at live).takes p a n f v is small may).owned) (refl, refl, refl, refl) refl
+            ((steps_here form z b t h late views k id x at live).takes p a n f v is small may).owned) (refl, refl, refl, refl) refl refl
             (record { sized = own.sized; seated = own.seated; known = own.known; ahead = own.ahead; unplaced = own.unplaced })
             (λ no. let was = (mine form z b t h late views k id x at live).tries live no in (
               was.0,

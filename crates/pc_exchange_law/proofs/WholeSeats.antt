@@ -1,5 +1,6 @@
 -- Under the whole rule the last pass makes another, and takes another in.
-use Rattle.std.proofs.Common.{◌≡◌, ◌≢◌, ℕ, ◌+◌, ◌<◌, ◌≤◌, Bool, true, false, List, [], ◌∷◌, ◌++◌, length, set, length-set, refl, sym, ap, ◌∙◌, subst, arith}
+use Rattle.std.proofs.Common.{◌≡◌, ◌≢◌, ℕ, ◌+◌, ◌<◌, ◌≤◌, ⊎_elim, Bool, true, false, List, [], ◌∷◌, ◌++◌, length, set, length-set, refl, sym, ap, ◌∙◌, subst, arith}
+use Rattle.std.proofs.lemmas.Bool.{cases_eq}
 use mathlib.Core.Option.{some}
 use lib.ListN.{get_elem?}
 use Rattle.std.proofs.lemmas.List.{length-map}
@@ -9,12 +10,13 @@ use Rattle.pc_model.specs.declared.cell.Field.{Field}
 use Rattle.pc_model.specs.Forms.{Form}
 use Rattle.pc_rule_law.specs.Board.{Size, Board, put}
 use Rattle.pc_rule_law.specs.Conditions.{IsFree}
-use Rattle.pc_rule_law.specs.Past.{Past}
+use Rattle.pc_rule_law.specs.Past.{Has, Past}
 use Rattle.pc_rule_law.specs.Rule.{Each, Kept, Shared}
 use Rattle.pc_rule_law.specs.Seats.{maker, made_by, joined_by, spent_view}
 use Rattle.pc_rule_law.specs.Views.{View}
-use Rattle.pc_rule_law.proofs.Lists.{all_both, each_moved, each_snoc, below_length}
+use Rattle.pc_rule_law.proofs.Lists.{all_both, all_none, all_one, each_moved, each_snoc, below_length}
 use Rattle.pc_rule_law.proofs.Seats.{split_kept, join_kept}
+use Rattle.pc_rule_law.proofs.Updates.{put-here, put-else}
 use Rattle.pc_protocol.specs.Histories.{History}
 use Rattle.pc_protocol.specs.Notes.{IsTrueNote}
 use Rattle.pc_exchange_law.specs.Ties.{CellsAreSound}
@@ -25,10 +27,17 @@ use Rattle.pc_exchange_law.specs.ExchangeLaws.{Comes}
 use Rattle.pc_exchange_law.specs.Passes.{PassKnows, IsKnown}
 use Rattle.pc_exchange_law.specs.Paths.{IsPathOf}
 use Rattle.pc_exchange_law.specs.WholeSeats.{whole_maker, whole_made, whole_joined, whole_spent}
-use Rattle.pc_exchange_law.specs.Wholes.{Whole, views_of, knows_nothing, WholeKept, WholeHolds}
+use Rattle.pc_exchange_law.specs.Wholes.{SlotsAt, Whole, slots_at, all_slots_at, IsTakenIn, views_of, knows_nothing, WholeKept, WholeHolds}
 use Rattle.pc_exchange_law.proofs.Passes.{made_known}
 use Rattle.pc_exchange_law.proofs.Paths.{empty_path}
-use Rattle.pc_exchange_law.proofs.WholeKeeping.{views_set, views_more, known_after, at_view, mine, own_here, steps_here}
+use Rattle.pc_exchange_law.proofs.WholeKeeping.{taken_kept, views_set, views_more, known_after, at_view, mine, own_here, steps_here}
+
+-- a pass that was joined stays so where another is
+stays_joined : (alive : ℕ → Bool) (other j : ℕ) → alive j ≡ false → put alive other false j ≡ false
+stays_joined alive other j was = ⊎_elim
+    (λ same. ap (put alive other false) same ∙ put-here alive other false)
+    (λ ne. put-else alive other j false ne ∙ was)
+    (cases_eq j other)
 
 module _ (form : Form) (z : Size) (b : Board) (t : Past) (h : History) (late : ℕ → Bool) (views : List Whole)
     (k : WholeKept form z b t h late views) (id : ℕ) (x : Whole) (at : get_elem? views id ≡ some x)
@@ -89,6 +98,10 @@ module _ (form : Form) (z : Size) (b : Board) (t : Past) (h : History) (late : �
         owned = each_snoc (set views id (whole_maker x)) (whole_made x) O
             (each_moved views id (whole_maker x) O O k.owned (λ _. k.owned id x at live) (λ j u _ _ was. was))
             (subst (λ (n : ℕ). O n (whole_made x)) (sym long) made_owns);
+        taken = each_snoc (set views id (whole_maker x)) (whole_made x)
+            (λ j u. u.view.live ≡ true → (s : SlotsAt) → Has u.taken s → IsTakenIn z t' h s)
+            (taken_kept form z b t h late views k id x at live t' h (whole_maker x) (λ j. refl) refl (λ j a o _ _ was. was))
+            (λ _. all_none (IsTakenIn z t' h));
         unowned = λ j le lt. k.unowned j (omega arith) lt;
         unmade = λ j le lt. still j (knows_nothing z j) (let some : z.seats ≤ 32 = few in omega arith)
             (λ e. absurd (omega arith)) (k.unmade j (omega arith) lt);
@@ -129,6 +142,15 @@ module _ (form : Form) (z : Size) (b : Board) (t : Past) (h : History) (late : �
         noted = all_both (IsTrueAttemptNote b t' t'.words) y.knows.noted x.knows.noted its.noted c.known.noted;
         told = all_both (IsTrueNote h) y.knows.told x.knows.told its.told c.known.told;
       } in
+      let T : ℕ → Whole → Type 0 = λ j w. w.view.live ≡ true → (s : SlotsAt) → Has w.taken s → IsTakenIn z t' h s in
+      let still_in : (s : SlotsAt) → IsTakenIn z t h s → IsTakenIn z t' h s = λ s was.
+      record { seated = was.seated; joined = stays_joined t.live other s.seat was.joined; owned = was.owned } in
+      let seat : y.view.seat ≡ other = (own_here form z b t h late views k other y there_y alive).seated.0 in
+      let taken_now : IsTakenIn z t' h (slots_at y) = record {
+        seated = omega arith;
+        joined = ap t'.live seat ∙ put-here t.live other false;
+        owned = subst (λ (j : ℕ). OwnsSlots z h j y.knows.own y.knows.slots) (sym seat) (k.owned other y there_y alive);
+      } in
       let first : Each (set views id u) P = each_moved views id u
       (λ j w. w.view.live ≡ true → IsKnown b t t.words h late j w.knows) P k.known (λ _. merged)
       (λ j w ne at_j was lives. still j w.knows
@@ -144,6 +166,13 @@ module _ (form : Form) (z : Size) (b : Board) (t : Past) (h : History) (late : �
         owned = each_moved (set views id u) other whole_spent O O
             (each_moved views id u O O k.owned (λ _. k.owned id x at live) (λ j w _ _ was. was)) (λ no. absurd (cc))
             (λ j w _ _ was. was);
+        taken = each_moved (set views id u) other whole_spent T T
+            (each_moved views id u (λ j w. w.view.live ≡ true → (s : SlotsAt) → Has w.taken s → IsTakenIn z t h s) T k.taken
+            (λ _. all_both (IsTakenIn z t' h) (all_slots_at y) x.taken
+            (all_both (IsTakenIn z t' h) y.taken (slots_at y ∷ []) (λ s has. still_in s (k.taken other y there_y alive s has))
+            (all_one (IsTakenIn z t' h) (slots_at y) taken_now))
+            (λ s has. still_in s (k.taken id x at live s has)))
+            (λ j w _ _ was lives s has. still_in s (was lives s has))) (λ no. absurd (cc)) (λ j w _ _ was. was);
         unowned = k.unowned;
         unmade = λ j le lt. still j (knows_nothing z j) (let some : z.seats ≤ 32 = few in omega arith)
             (λ e. absurd (omega arith)) (k.unmade j le lt);

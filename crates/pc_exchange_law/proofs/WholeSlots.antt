@@ -1,5 +1,5 @@
 -- A pass takes the next slot of its share as its spare, under the whole rule: it loads the version that stands there.
-use Rattle.std.proofs.Common.{◌≡◌, ℕ, ◌<◌, Bool, true, List, [], set, refl, sym, ◌∙◌, subst, arith}
+use Rattle.std.proofs.Common.{◌≡◌, ℕ, ◌+◌, ◌<◌, Bool, true, List, [], set, refl, sym, ap, ◌∙◌, subst, arith}
 use mathlib.Core.Option.{some, none}
 use lib.ListN.{get_elem?}
 use Rattle.atomic_table.specs.Table.{step, Allows}
@@ -37,7 +37,8 @@ use Rattle.pc_exchange_law.proofs.OwnSlots.{take_others, take_own}
 use Rattle.pc_exchange_law.proofs.Paths.{path_stays}
 use Rattle.pc_exchange_law.proofs.SeenPaths.{paths_still}
 use Rattle.pc_exchange_law.proofs.Slots.{take_kept}
-use Rattle.pc_exchange_law.proofs.WholeKeeping.{views_set, at_view, known_here, owned_here, path_here}
+use Rattle.pc_exchange_law.proofs.FreeVersions.{unused_version, opened_version}
+use Rattle.pc_exchange_law.proofs.WholeKeeping.{taken_kept, views_set, at_view, known_here, owned_here, path_here}
 use Rattle.pc_exchange_law.proofs.WholeLooks.{plain_there}
 use Rattle.pc_exchange_law.proofs.WholeSteps.{WholeGoes, whole_allowed}
 use Rattle.pc_exchange_law.proofs.Worlds.{linked_now}
@@ -48,7 +49,7 @@ plain_number (Plain v) is = (v, refl)
 plain_number (Install q k) is = absurd is
 plain_number (Exchange p a) is = absurd is
 
-module _ (form : Form) (z : Size) (id n : ℕ) (x : Whole) (live : x.view.live ≡ true) (may : MayTakeSlot x.knows n)
+module _ (form : Form) (z : Size) (id n : ℕ) (x : Whole) (live : x.view.live ≡ true) (sized : x.view.size ≡ z) (may : MayTakeSlot x.knows n)
     (in_p : Inside z (at_cell n Version)) (b : Board) (t : Past) (h : History) (late : ℕ → Bool) (views : List Whole)
     (k : WholeKept form z b t h late views) (at : get_elem? views id ≡ some x) where
   abbrev h' : History
@@ -78,6 +79,11 @@ module _ (form : Form) (z : Size) (id n : ℕ) (x : Whole) (live : x.view.live �
 
   odd : IsOdd v
   odd = subst IsOdd now_is (k.world.rule.unused n (λ u. free_not_used (h.slot n) is_free u))
+
+  opened : v ≡ x.view.size.starts.version + 1
+  opened = sym now_is ∙ unused_version h k.world.rule k.world.slots.changed n (λ u. free_not_used (h.slot n) is_free u) ∙ k.world.opened n Version
+      ∙ opened_version z.starts.version n (λ one. let begins = own_slots.begins in let next = may.next in absurd (omega arith))
+      ∙ ap (λ (y : Size). y.starts.version + 1) (sym sized)
 
   keeps : Keeps h h'
   keeps = take_slot_keeps h k.world.rule n is_free
@@ -151,8 +157,10 @@ module _ (form : Form) (z : Size) (id n : ℕ) (x : Whole) (live : x.view.live �
         (λ j u ne at_j was alive. path_stays h h' keeps j u.path (was alive) (λ s is. is));
     owned = each_moved views id after (λ j u. u.view.live ≡ true → OwnsSlots z h j u.knows.own u.knows.slots)
         (λ j u. u.view.live ≡ true → OwnsSlots z h' j u.knows.own u.knows.slots) k.owned
-        (λ _. take_own z h k.world.rule id n is_free mine x.knows.own x.knows.slots v may.rests may.next plain_is now_is own_slots)
+        (λ _. take_own z h k.world.rule id n is_free mine x.knows.own x.knows.slots v may.rests may.no_spare may.next plain_is now_is own_slots)
         (λ j u ne at_j was alive. take_others z h k.world.rule id n is_free mine j u.knows.own u.knows.slots ne (was alive));
+    taken = taken_kept form z b t h late views k id x at live t h' after (λ j. refl) refl
+        (λ j a o _ ne was. take_others z h k.world.rule id n is_free mine j a o ne was);
     unmade = λ j le lt. known_then j _ (k.unmade j le lt);
     unowned = λ j le lt. let mine_too = made in take_others z h k.world.rule id n is_free mine j (knows_nothing z j).own (knows_nothing z j).slots
         (λ same. absurd (omega arith)) (k.unowned j le lt);
@@ -172,7 +180,7 @@ module _ (form : Form) (z : Size) (id n : ℕ) (x : Whole) (live : x.view.live �
     kept = slot_taken;
     told = (
       (refl, refl, refl, refl, refl),
-      (v, kind_raw (b.cell n Version) (k.kept.shared.ranges n Version) ∙ found.1, odd, refl),
+      (v, kind_raw (b.cell n Version) (k.kept.shared.ranges n Version) ∙ found.1, odd, opened, refl),
     );
   }
 
@@ -182,4 +190,4 @@ pub whole_take_slot : (form : Form) (z : Size) (slots id : ℕ) (me : WholeMine)
     → Allows (WholeHolds form z) slots id me (address z (at_cell n Version)) (λ r. r)
     (whole_takes_slot (step slots (address z (at_cell n Version)) 0 0 none) me)
 whole_take_slot form z slots id me n sized live may in_p = whole_allowed form z slots id me (at_cell n Version) (λ i. i)
-    (TakesSlot me.0) in_p sized (λ b t h late views k at. takes form z id n me.0 live may in_p b t h late views k at)
+    (TakesSlot me.0) in_p sized (λ b t h late views k at. takes form z id n me.0 live sized may in_p b t h late views k at)

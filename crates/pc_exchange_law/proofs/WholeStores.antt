@@ -72,7 +72,8 @@ module _ (form : Form) (z : Size) where
         only = g.only;
         is = g.is;
         kept = whole_after form z b t h late views k id x at live g.board g.past h late y g.kept
-            (ap (λ (u : Past). u.count) g.happens.1) (ap (λ (u : Past). u.posted) g.happens.1) comes (path_kept form z b t h late views k id x at live h comes.keeps comes.unread);
+            (ap (λ (u : Past). u.count) g.happens.1) (ap (λ (u : Past). u.posted) g.happens.1)
+            (λ j. ap (λ (u : Past). u.live j) g.happens.1) refl comes (path_kept form z b t h late views k id x at live h comes.keeps comes.unread);
         told = (g.told.0, λ e. ap (λ (w : View). record x { view = w }) (g.told.1 e));
       }
 
@@ -101,7 +102,7 @@ module _ (form : Form) (z : Size) where
         late = late;
         only = subst (λ (i : ℕ). Only (at_own i (own_word place)) b b') (sym own.seated.0) (only_word b id place r);
         is = ap (λ (i : ℕ). put2 b.word id place r i place) own.seated.0 ∙ put2-here b.word id place r;
-        kept = whole_goes form z b t h late views k id x at live b' t h late y [] step ((steps_here form z b t h late views k id x at live).stores place r may).owned (refl, refl, refl, refl) refl
+        kept = whole_goes form z b t h late views k id x at live b' t h late y [] step ((steps_here form z b t h late views k id x at live).stores place r may).owned (refl, refl, refl, refl) refl refl
             (record { sized = own.sized; seated = own.seated; known = own.known; ahead = own.ahead; unplaced = own.unplaced })
             (λ no. let was = (mine form z b t h late views k id x at live).tries live no in (
               was.0,
@@ -158,7 +159,7 @@ module _ (form : Form) (z : Size) where
         only = subst (λ (i : ℕ). Only (at_own i own_status) b b') (sym own.seated.0) (only_status b id s);
         is = stored_status b id x.view.seat s own.seated.0
             ∙ ap (λ (i : ℕ). packed (record { number = i + 1; stage = Undecided })) same;
-        kept = whole_goes form z b t h late views k id x at live b' t' h' late y [] step ((steps_here form z b t h late views k id x at live).publishes x.path e c keys used_path may).owned (refl, refl, refl, refl) refl
+        kept = whole_goes form z b t h late views k id x at live b' t' h' late y [] step ((steps_here form z b t h late views k id x at live).publishes x.path e c keys used_path may).owned (refl, refl, refl, refl) refl refl
             (record { sized = own.sized; seated = own.seated; known = own.known; ahead = own.ahead; unplaced = own.unplaced })
             (λ no. let was = (mine form z b t h late views k id x at live).tries live no in (
               was.0,
@@ -230,7 +231,7 @@ module _ (form : Form) (z : Size) where
         only = subst (λ (i : ℕ). Only (at_own i own_status) b b') (sym own.seated.0) (only_status b id s);
         is = stored_status b id x.view.seat s own.seated.0
             ∙ ap (λ (i : ℕ). packed (record { number = i; stage = Idle })) same;
-        kept = whole_goes form z b t h late views k id x at live b' t h late y [] step ((steps_here form z b t h late views k id x at live).clears st may.decided may).owned (refl, refl, refl, refl) refl
+        kept = whole_goes form z b t h late views k id x at live b' t h late y [] step ((steps_here form z b t h late views k id x at live).clears st may.decided may).owned (refl, refl, refl, refl) refl refl
             (record { sized = own.sized; seated = own.seated; known = own.known; ahead = own.ahead; unplaced = own.unplaced })
             (λ no. let was = (mine form z b t h late views k id x at live).tries live no in (
               was.0,

@@ -109,7 +109,8 @@ module _ (form : Form) (z : Size) where
         only = g.only;
         is = g.is;
         kept = whole_after form z b t h late views k id x at live g.board g.past h' late y g.kept
-            (ap (λ (u : Past). u.count) w.past) (ap (λ (u : Past). u.posted) w.past) comes (path_kept form z b t h late views k id x at live h' comes.keeps comes.unread);
+            (ap (λ (u : Past). u.count) w.past) (ap (λ (u : Past). u.posted) w.past)
+            (λ j. ap (λ (u : Past). u.live j) w.past) refl comes (path_kept form z b t h late views k id x at live h' comes.keeps comes.unread);
         told = (g.told.0, g.told.1, record { hit = λ _. (learnt.0, learnt.1, then.1); miss = λ ne. absurd (ne hit); aim = refl; path = refl });
       }
 
@@ -131,7 +132,7 @@ module _ (form : Form) (z : Size) where
         y,
         whole_looked form z b t h late views k id x at live y g.1
             (more_known z.slots b t t.words h late id learnt.0 learnt.2 [] more
-            (all_none (IsTrueAttemptNote b t t.words)) is_true) (learnt.1.learns.own, learnt.1.learns.slots) (path_here form z b t h late views k id x at live),
+            (all_none (IsTrueAttemptNote b t t.words)) is_true) (learnt.1.learns.own, learnt.1.learns.slots, refl) (path_here form z b t h late views k id x at live),
         (
           g.2.0,
           g.2.1,

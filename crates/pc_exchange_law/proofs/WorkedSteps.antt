@@ -64,7 +64,7 @@ step5 =
       unchanged_known bare_form two 0 b4 t4 w4 h4 none_late k4 step4.known (omega arith) b5 t4 h5 (λ p. refl)
           (λ p place. refl) (λ x. refl) goes,
     ) (let kept = (steps_keep_owned h4 step4.world.rule).refers 1 Version (Some 256) in
-    same_slots two h4 h5 0 k4.own k4.slots step4.owned kept.spares kept.filled refl refl refl)
+    same_slots two h4 h5 0 k4.own k4.slots step4.owned kept.spares kept.filled refl refl refl refl)
 
 -- ---- here it might be withdrawn as well
 
@@ -180,7 +180,7 @@ clean_at zero below = (0, refl)
 clean_at (suc i) below = absurd (omega arith)
 
 -- the pass knows by now that it is gone from all words
-gone_by_now : KnowsCleared (record { view = v8; knows = k7; aim = (0, 4); path = new_path }) 0 4
+gone_by_now : KnowsCleared (record { view = v8; knows = k7; aim = (0, 4); path = new_path; taken = [] }) 0 4
 gone_by_now = record {
   places = record { count = 1; counted = inr (refl, refl, refl, refl); each = place_at };
   each = clean_at;

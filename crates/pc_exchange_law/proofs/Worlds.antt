@@ -1,6 +1,6 @@
 -- Each kind of step, whole but for views: from what it owes follow the topics of the board's rule and of the world
 -- afterwards, that nothing is taken back, and what is left to the passes of other seats.
-use Rattle.std.proofs.Common.{◌≡◌, ◌≢◌, ℕ, suc, ◌≤◌, ⊎_elim, Bool, refl, sym, ◌∙◌, subst, arith, ◌<◌, true, false}
+use Rattle.std.proofs.Common.{◌≡◌, ◌≢◌, ℕ, suc, ◌≤◌, le_refl, ⊎_elim, Bool, refl, sym, ◌∙◌, subst, arith, ◌<◌, true, false}
 use Rattle.std.proofs.lemmas.Bool.{cases_eq, cases_lt}
 use Rattle.pc_model.specs.declared.cell.Field.{Field}
 use Rattle.pc_model.specs.Forms.{Form, Fits}
@@ -36,6 +36,7 @@ use Rattle.pc_exchange_law.proofs.SeenPaths.{paths_still}
 use Rattle.pc_exchange_law.proofs.TieDraws.{nothing_changes, look_leads, draw_leads, other_draw_leads}
 use Rattle.pc_exchange_law.proofs.TieMoves.{may_become, brings}
 use Rattle.pc_exchange_law.proofs.OwnSlots.{same_slots}
+use Rattle.pc_exchange_law.proofs.SlotCounts.{made_past}
 use Rattle.pc_exchange_law.proofs.Slots.{look_slots, word_slots, draw_slots, read_draw_slots}
 use Rattle.pc_exchange_law.proofs.TieRuns.{run_leaves_sound}
 use Rattle.pc_exchange_law.proofs.TieWords.{may_refer, word_leads}
@@ -126,7 +127,7 @@ module _ (form : Form) (z : Size) (id : ℕ) (b : Board) (t : Past) (w : Scripts
           leaves_late = λ j ne. refl;
           unread = ((steps_keep_owned h world.rule).refers n f (reference_in c)).unread;
           stays = λ j a o _ _ was. let owned = (steps_keep_owned h world.rule).refers n f (reference_in c) in
-              same_slots z h (refer h n f (reference_in c)) j a o was owned.spares owned.filled refl refl refl;
+              same_slots z h (refer h n f (reference_in c)) j a o was owned.spares owned.filled refl refl refl refl;
         }
 
     -- a word of the own descriptor, while the own status is idle
@@ -256,7 +257,7 @@ module _ (form : Form) (z : Size) (id : ℕ) (b : Board) (t : Past) (w : Scripts
         leaves_late = others;
         unread = ((steps_keep_owned h world.rule).draws d).unread;
         stays = λ j a o _ _ was. let owned = (steps_keep_owned h world.rule).draws d in
-            same_slots z h (draw h d) j a o was owned.spares owned.filled refl refl refl;
+            same_slots z h (draw h d) j a o was owned.spares owned.filled refl refl refl (made_past z j h.item h.clock (world.rule.run.late h.clock (le_refl h.clock)));
       }
 
       pub draw_goes : (x : ℕ) → CanDraw h x → Goes (with_next_stamp b) t w (draw h (for_exchange x)) late'

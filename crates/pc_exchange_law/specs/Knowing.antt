@@ -97,10 +97,12 @@ after_draw k x s = record (with_more k [] (drew x s ∷ [])) { ready = false }
 abbrev pub HasSeenStamp : List Note → ℕ → Type 0
 HasSeenStamp told s = ((x : ℕ) × Has told (drew x s)) ⊎ (((x : ℕ) × Has told (verdict x (committed s))) ⊎ ((e : PathExchange) × Has told (in_run s e)))
 
--- a stamp isn't below what the clock was seen to have come to, and it is above each stamp that was seen
+-- a stamp isn't below what the clock was seen to have come to, it is above each stamp that was seen, and isn't below the moment since
+-- which a word is known by a read
 pub record IsAboveSeen (told : List Note) (s : ℕ) : Type 0 where
   pub clock : (c : ℕ) → Has told (clock_was c) → c ≤ s
   pub stamps : (t : ℕ) → HasSeenStamp told t → t < s
+  pub reads : (n v x b : ℕ) (f : Field) → Has told (read_word n v f x b) → b ≤ s
 
 -- a draw for a read: the clock has come above the stamp
 abbrev pub after_read_draw : PassKnows → ℕ → PassKnows

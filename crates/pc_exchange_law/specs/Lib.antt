@@ -10,6 +10,7 @@ pub mod Knowing
 pub mod OwnSlots
 pub mod Passes
 pub mod Paths
+pub mod SlotCounts
 pub mod Slots
 pub mod TieLaws
 pub mod Ties

@@ -1,15 +1,19 @@
 -- What a pass has of the slots of nodes: those of its share that it hasn't taken yet, and its spare, with what it filled in. A
 -- slot comes into use with an exchange that makes its node.
-use Rattle.std.specs.Prelude.{◌≡◌, ℕ, ◌+◌, ◌<◌, ◌≤◌, ◌==◌, if◌then◌else◌, Bool, true, false, List, [], ◌∷◌, Option, Some, None}
+use Rattle.std.specs.Prelude.{◌≡◌, ℕ, ◌+◌, ◌-◌, ◌<◌, ◌≤◌, ◌↔◌, ◌==◌, if◌then◌else◌, Bool, true, false, List, [], ◌∷◌, Option, Some, None}
+use mathlib.Core.Option.{some}
+use lib.ListN.{get_elem?}
 use Rattle.pc_model.specs.declared.cell.Field.{Field}
 use Rattle.pc_model.specs.declared.cell.Field.TheVariants.{Version}
 use Rattle.pc_model.specs.Cells.{field_number}
 use Rattle.pc_model.specs.Exchanges.{FreshNode}
+use Rattle.pc_history.specs.WorldRuns.{run_of}
 use Rattle.pc_rule_law.specs.Board.{Size, start_of}
 use Rattle.pc_protocol.specs.Histories.{Stage, absent, undecided, committed, aborted, History, IsUndecided, IsFree, IsUsed}
 use Rattle.pc_protocol.specs.Notes.{Note, in_use}
 use Rattle.pc_protocol.specs.Owned.{HasSpare, IsFilled}
 use Rattle.pc_exchange_law.specs.Attempts.{OwnAttempt}
+use Rattle.pc_exchange_law.specs.SlotCounts.{count_of, nodes_made}
 use Rattle.pc_exchange_law.specs.Ties.{code, seat_in}
 
 -- the slot is one of the share of the pass at seat j
@@ -57,11 +61,31 @@ pub record Makes (h : History) (x : ℕ) (o : OwnSlots) (n : ℕ) : Type 0 where
   pub at_node : fresh.node ≡ n
   pub holds : HoldsBy (h.stage x) h o n
 
+-- what is left of the spare by how an attempt was decided, and whether that makes the spare's node
+abbrev pub spare_left : Stage → Bool → Option ℕ → Option ℕ
+spare_left absent named spare = spare
+spare_left undecided named spare = spare
+spare_left (committed s) true spare = None
+spare_left (committed s) false spare = spare
+spare_left (aborted cause) named spare = spare
+
+-- the slot that is still a spare of the pass at seat j, if any, whose own attempt is this one
+abbrev pub still_spare : History → ℕ → OwnAttempt → OwnSlots → Option ℕ
+still_spare h j own o = spare_left (h.stage (code j own.number)) o.named o.spare
+
+-- how many slots of its share the pass has taken: one for each node that the run made there, and its spare
+abbrev pub slots_taken : Size → History → ℕ → OwnAttempt → OwnSlots → ℕ
+slots_taken z h j own o = count_of (still_spare h j own o) + nodes_made z j (run_of h.item h.clock)
+
 -- what the slots of the pass at seat j are, whose own attempt is this one
 pub record OwnsSlots (z : Size) (h : History) (j : ℕ) (own : OwnAttempt) (o : OwnSlots) : Type 0 where
   pub begins : start_of z j ≤ o.next
-  pub ends : o.until ≤ start_of z (j + 1)
+  pub within : o.next ≤ o.until
+  pub ends : o.until ≡ start_of z (j + 1)
+  -- the slots of the share from the next one on are free, and no other is
   pub free : (n : ℕ) → o.next ≤ n → n < o.until → IsFree (h.slot n)
+  pub taken : (n : ℕ) → start_of z j ≤ n → n < o.next → IsFree (h.slot n) → ⊥
+  pub counted : o.next ≡ start_of z j + slots_taken z h j own o
   pub of_share : (n : ℕ) → o.spare ≡ Some n → IsOfShare z j n
   pub unnamed : (n : ℕ) → o.spare ≡ Some n → o.named ≡ false → HoldsSpare h o n
   pub named : (n : ℕ) → o.spare ≡ Some n → o.named ≡ true → Makes h (code j own.number) o n
@@ -70,6 +94,12 @@ pub record OwnsSlots (z : Size) (h : History) (j : ℕ) (own : OwnAttempt) (o : 
   -- an undecided exchange of the pass that makes a node is the own attempt, which makes the spare's
   pub names : (x : ℕ) (g : FreshNode) → seat_in x ≡ j → IsUndecided (h.stage x) → (h.op x).fresh ≡ Some g
       → (o.named ≡ true) × (o.spare ≡ Some g.node) × (x ≡ code j own.number)
+
+-- how the share of the pass at seat j stands: its slots from the next one on are free, and no other is; and these, its spare, and
+-- the nodes that the run made there are together as many as the share has
+pub record ShareIsCounted (z : Size) (h : History) (j : ℕ) (own : OwnAttempt) (o : OwnSlots) : Type 0 where
+  pub free : (n : ℕ) → IsOfShare z j n → IsFree (h.slot n) ↔ (o.next ≤ n)
+  pub counted : (share : ℕ) → get_elem? z.shares j ≡ some share → (o.until - o.next) + slots_taken z h j own o ≡ share
 
 -- ---- how they go on
 
@@ -91,14 +121,7 @@ with_spare o v = record o { next = o.next + 1; spare = Some o.next; version = v;
 abbrev pub with_filled : OwnSlots → Field → ℕ → OwnSlots
 with_filled o f v = record o { filled = (f, v) ∷ o.filled }
 
--- what is left of the spare once an attempt is cleared, by how it was decided, and whether it made the spare's node
-abbrev pub spare_left : Stage → Bool → Option ℕ → Option ℕ
-spare_left absent named spare = spare
-spare_left undecided named spare = spare
-spare_left (committed s) true spare = None
-spare_left (committed s) false spare = spare
-spare_left (aborted cause) named spare = spare
-
+-- the own attempt is cleared, which was decided so
 abbrev pub slots_cleared : OwnSlots → Stage → OwnSlots
 slots_cleared o st = record o { spare = spare_left st o.named o.spare; named = false }
 

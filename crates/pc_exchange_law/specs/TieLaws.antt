@@ -9,7 +9,7 @@ use Rattle.pc_words.specs.declared.word.WordKind.{WordKind}
 use Rattle.pc_words.specs.declared.word.WordKind.TheVariants.{Plain, Exchange}
 use Rattle.pc_words.specs.declared.status.Stage.TheVariants.{Idle, Undecided, Succeeded}
 use Rattle.pc_history.specs.Footprints.{IsAmong}
-use Rattle.pc_history.specs.WorldRuns.{Stamped, IsWorldRun, cells_after, run_of}
+use Rattle.pc_history.specs.WorldRuns.{Stamped, IsWorldRun, cells_after, cells_before, run_of}
 use Rattle.pc_rule_law.specs.Board.{Size, Board, put2}
 use Rattle.pc_rule_law.specs.Past.{Has, Attempt, Placing, Past, change, IsFormed}
 use Rattle.pc_rule_law.specs.Stages.{IsIdle, IsOpen, value_by as value_by_status, IsUndecided as IsUndecidedAttempt}
@@ -192,6 +192,8 @@ pub record RunTells (b : Board) (t : Past) (h : History) : Type 0 where
   -- stamps rise, and each exchange stands in the cells that the earlier ones leave from those of the opening
   pub world : IsWorldRun h.opening 0 (run_up_to h)
   pub below : (x : Stamped) → IsAmong x (run_up_to h) → x.stamp < b.clock
+  -- the cells in which an exchange stands are those at its moment
+  pub before : (x : Stamped) → IsAmong x (run_up_to h) → cells_before h.opening (run_up_to h) x.stamp ≡ moments h x.stamp
   pub each : (x : Stamped) → IsAmong x (run_up_to h) → IsOfRun t h x
   -- whose each is: an exchange stands at the one stamp at which it took effect, and what is of none changes nothing
   pub made : (x : Stamped) (y : ℕ) → IsAmong x (run_up_to h) → maker_of (h.drawn_for x.stamp) ≡ Some y

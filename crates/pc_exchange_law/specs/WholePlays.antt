@@ -310,9 +310,10 @@ abbrev pub ChecksVisit : Whole → ℕ → Whole → Place → Type 0
 ChecksVisit x r y (at_cell n Version) = CellSeen x n Version r y × PathChecked x.path r y.path y.knows
 ChecksVisit x r y _ = Unit {0}
 
--- a load of the version of the next slot of the own share, which is taken as the spare: a plain number, and odd
+-- a load of the version of the next slot of the own share, which is taken as the spare: a plain number, odd, and the one that the slot
+-- opened with
 abbrev pub TakesSlot : Whole → ℕ → Whole → Place → Type 0
-TakesSlot x r y (at_cell n Version) = (v : ℕ) × (kind r ≡ Plain v) × IsOdd v
+TakesSlot x r y (at_cell n Version) = (v : ℕ) × (kind r ≡ Plain v) × IsOdd v × (v ≡ x.view.size.starts.version + 1)
     × (y ≡ record x { knows = record x.knows { slots = with_spare x.knows.slots v } })
 TakesSlot x r y _ = Unit {0}
 

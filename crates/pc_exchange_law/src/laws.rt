@@ -1,8 +1,8 @@
 //! The laws of the tie, each on a function with no code.
-ghost use Rattle.std.specs.Prelude.{◌≤◌, ℕ, Bool, List};
+ghost use Rattle.std.specs.Prelude.{◌≡◌, ◌≤◌, ℕ, Bool, true, List};
 ghost use Rattle.pc_rule_law.specs.Board.{Board, Size};
 ghost use Rattle.pc_model.specs.Cells.{Cells};
-ghost use Rattle.pc_rule_law.specs.Rule.{Own, Shared};
+ghost use Rattle.pc_rule_law.specs.Rule.{Each, Own, Shared};
 ghost use Rattle.pc_rule_law.specs.Views.{AllNotes, NoteHolds, View};
 ghost use Rattle.pc_rule_law.specs.Past.{Has, Past};
 ghost use Rattle.pc_protocol.specs.Histories.{History};
@@ -20,10 +20,11 @@ ghost use Rattle.pc_exchange_law.specs.ClockEnds.{ClockEnds, ClockIsBounded};
 ghost use Rattle.pc_exchange_law.specs.ExchangeLaws.{ExchangeStepsGoOn};
 ghost use Rattle.pc_exchange_law.specs.Knowing.{LoadsTellPasses};
 ghost use Rattle.pc_exchange_law.specs.Passes.{IsKnown, PassKnows};
-ghost use Rattle.pc_exchange_law.specs.OwnSlots.{OwnsSlots};
+ghost use Rattle.pc_exchange_law.specs.OwnSlots.{OwnsSlots, ShareIsCounted};
 ghost use Rattle.pc_exchange_law.specs.Slots.{ChangesUsed};
 ghost use Rattle.pc_exchange_law.specs.Ties.{CellsAreSound, IsTied};
 ghost use Rattle.pc_exchange_law.specs.ViewNotes.{ViewNotesStay};
+ghost use Rattle.pc_exchange_law.specs.Wholes.{Whole, WholeKept};
 ghost use Rattle.pc_exchange_law.specs.Worlds.{World};
 ghost use Rattle.pc_exchange_law.specs.TieLaws.{
   BoardTells,
@@ -139,6 +140,14 @@ pub fn view_notes_stay<H: Shape>()
         → Own z b.install t.course id v
         → AllNotes (NoteHolds z b t) v.notes → IsKnown b t w h late id k → OwnsSlots z h id k.own k.slots
         → ViewNotesStay H.form z id b t h v k }
+{}
+
+/// Between any two steps, of the share of each pass: its free slots, its spare, and the nodes that the run made there are together
+/// as many as the share has.
+pub fn slots_are_counted<H: Shape>()
+    ensures { (z : Size) (b : Board) (t : Past) (h : History) (late : ℕ → Bool) (views : List Whole)
+        → WholeKept H.form z b t h late views
+        → Each views (λ j x. x.view.live ≡ true → ShareIsCounted z h j x.knows.own x.knows.slots) }
 {}
 
 /// Where each pass draws once for a load that found the clock below the last stamp, the clock never wraps.

@@ -13,8 +13,8 @@ mod whole;
 pub use laws::{
     attempt_notes_stay, attempts_are_known, board_tells, calms_serve, clock_ends,
     codes_are_inverse, descriptors_are_scripts, exchange_steps_go_on, loads_tell_passes,
-    openings_are_tied, own_steps_are_known, run_leaves_sound_cells, run_tells, steps_keep_attempts,
-    steps_stay_tied, successes_serve, view_notes_stay, words_serve,
+    openings_are_tied, own_steps_are_known, run_leaves_sound_cells, run_tells, slots_are_counted,
+    steps_keep_attempts, steps_stay_tied, successes_serve, view_notes_stay, words_serve,
 };
 pub use whole::{
     WholeCheck, WholeClear, WholeDecide, WholeDraw, WholeEndPath, WholeFill, WholeFirstVisit,
