@@ -116,7 +116,7 @@ basing a (inl is) = subst
 basing a (inr none) = absurd none
 
 -- where the exchange fits, the pass may publish it as attempt 4
-may_publish : (form : Form) → Fits form 1 (exchange_of to_raise) [] → MayPublish form two (record { view = stored; knows = knowing; aim = (0, 0); path = new_path }) (packed (record { number = 4; stage = Undecided }))
+may_publish : (form : Form) → Fits form 1 (exchange_of to_raise) [] → MayPublish form two (record { view = stored; knows = knowing; aim = (0, 0); path = new_path; taken = [] }) (packed (record { number = 4; stage = Undecided }))
 may_publish form fits = (
   to_raise,
   5,

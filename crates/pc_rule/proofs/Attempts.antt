@@ -27,30 +27,39 @@ swapped_own x n f old new r y s = dite (ℕ_discrete r old)
     (λ e. let h = s.hit e in h.2.learns.own ∙ h.1.learns.own)
     (λ ne. (s.miss ne).learns.own)
 
--- the own install, the own attempt and the path are as they were
+-- and its slots
+pub swapped_slots : (x : Whole) (n : ℕ) (f : Field) (old new r : ℕ) (y : Whole) → WordSwapped x n f old new r y → y.knows.slots ≡ x.knows.slots
+swapped_slots x n f old new r y s = dite (ℕ_discrete r old)
+    (λ e. let h = s.hit e in h.2.learns.slots ∙ h.1.learns.slots)
+    (λ ne. (s.miss ne).learns.slots)
+
+-- the own install, the own attempt, the path and the slots are as they were
 pub record KeepsOwn (x y : Whole) : Type 0 where
   pub install : y.view.install ≡ x.view.install
   pub attempt : y.view.attempt ≡ x.view.attempt
   pub path : y.path ≡ x.path
+  pub slots : y.knows.slots ≡ x.knows.slots
   pub agree : AgreeOnAttempt x → AgreeOnAttempt y
 
 -- what is known beside changes, but not of the own attempt what the view has too
 pub knows_more : (x y : Whole) (k : PassKnows) → y ≡ record x { knows = k } → k.own.number ≡ x.knows.own.number → k.own.busy ≡ x.knows.own.busy
-    → k.own.words ≡ x.knows.own.words → KeepsOwn x y
-knows_more x y k is number busy words = subst (KeepsOwn x) (sym is) record {
+    → k.own.words ≡ x.knows.own.words → k.slots ≡ x.knows.slots → KeepsOwn x y
+knows_more x y k is number busy words same = subst (KeepsOwn x) (sym is) record {
   install = refl;
   attempt = refl;
   path = refl;
+  slots = same;
   agree = λ a. record { number = number ∙ a.number; busy = busy ∙ a.busy; words = words ∙ a.words };
 }
 
 -- the same where it is noted too that an attempt is decided
 pub decided_keeps : (x y : Whole) (p a : ℕ) (k : PassKnows) → y ≡ record x { view = after_decided x.view p a; knows = k } → k.own.number ≡ x.knows.own.number
-    → k.own.busy ≡ x.knows.own.busy → k.own.words ≡ x.knows.own.words → KeepsOwn x y
-decided_keeps x y p a k is number busy words = subst (KeepsOwn x) (sym is) record {
+    → k.own.busy ≡ x.knows.own.busy → k.own.words ≡ x.knows.own.words → k.slots ≡ x.knows.slots → KeepsOwn x y
+decided_keeps x y p a k is number busy words same = subst (KeepsOwn x) (sym is) record {
   install = refl;
   attempt = refl;
   path = refl;
+  slots = same;
   agree = λ g. record { number = number ∙ g.number; busy = busy ∙ g.busy; words = words ∙ g.words };
 }
 
@@ -62,6 +71,7 @@ tried_keeps x p old r After y s hit = dite (ℕ_discrete r old)
       install = ap (λ (u : View). u.install) m.1.later.same;
       attempt = ap (λ (u : View). u.attempt) m.1.later.same;
       path = m.5;
+      slots = m.2.learns.slots;
       agree = agree_still x y (ap (λ (u : View). u.attempt) m.1.later.same) m.2.learns.own;
     })
 
@@ -71,13 +81,18 @@ reference_own x n f old new r y s = dite (ℕ_discrete r old)
     (λ e. (s.learnt e).learns.own)
     (λ ne. (s.miss ne).seen.learns.own)
 
+pub reference_slots : (x : Whole) (n : ℕ) (f : Field) (old new r : ℕ) (y : Whole) → ReferenceTaken x n f old new r y → y.knows.slots ≡ x.knows.slots
+reference_slots x n f old new r y s = dite (ℕ_discrete r old)
+    (λ e. (s.learnt e).learns.slots)
+    (λ ne. (s.miss ne).seen.learns.slots)
+
 -- a draw, or one that was refused, leaves the own
 pub drawn_or_not : (x : Whole) (r : ℕ) (y : Whole) → HasDrawn x r y → KeepsOwn x y
 drawn_or_not x r y d = ⊎_elim
-    (λ (e : r ≡ last_stamp). knows_more x y _ (d.refused (omega arith)) refl refl refl)
+    (λ (e : r ≡ last_stamp). knows_more x y _ (d.refused (omega arith)) refl refl refl refl)
     (λ ne. ⊎_elim
-    (λ (lt : r < last_stamp). knows_more x y _ (d.drawn lt) refl refl refl)
-    (λ (gt : last_stamp < r). knows_more x y _ (d.refused (omega arith)) refl refl refl) ne)
+    (λ (lt : r < last_stamp). knows_more x y _ (d.drawn lt) refl refl refl refl)
+    (λ (gt : last_stamp < r). knows_more x y _ (d.refused (omega arith)) refl refl refl refl) ne)
     (cases_order r last_stamp)
 
 -- what was stored into the own descriptor reads the same in both parts

@@ -1,6 +1,6 @@
 -- What the words of a closed board say: by what stands when it closes, and later by what its type keeps. The type's fact is
 -- truncated, so each of these is a proposition.
-use Rattle.std.proofs.Common.{◌≡◌, ◌≢◌, ◌≤◌, ℕ, zero, suc, List, [], ◌∷◌, sym, ap, ◌∙◌, subst, slice_index}
+use Rattle.std.proofs.Common.{◌≡◌, ◌≢◌, ◌+◌, ◌≤◌, ℕ, zero, suc, List, [], ◌∷◌, sym, ap, ◌∙◌, subst, slice_index}
 use mathlib.Core.Option.{some, some-injective, some-ne-none}
 use lib.ListN.{get_elem?}
 use Rattle.std.proofs.Math.Logic.{∥∥₁_elim}
@@ -8,13 +8,13 @@ use Rattle.std.proofs.Props.{props}
 use Rattle.pc_model.specs.declared.cell.Field.{Field}
 use Rattle.pc_model.specs.declared.shape.Shape.{Ghosts}
 use Rattle.pc_model.specs.declared.cell.Field.TheVariants.{Version}
-use Rattle.pc_model.specs.Cells.{IsEven, IsNode}
+use Rattle.pc_model.specs.Cells.{Cells, IsEven, IsNode}
 use Rattle.pc_model.specs.Forms.{Form, IsSound}
 use Rattle.pc_model.specs.Exchanges.{Exchange as Exchanged}
 use Rattle.pc_history.specs.Footprints.{IsAmong}
 use Rattle.pc_history.specs.WorldRuns.{cells_after}
 use Rattle.pc_protocol.specs.Histories.{Stage as Course, committed, Cause, aborted}
-use Rattle.pc_protocol.specs.Notes.{Note, published, verdict, in_run, IsTrueNote}
+use Rattle.pc_protocol.specs.Notes.{Note, read_word, published, verdict, in_run, IsTrueNote}
 use Rattle.pc_model.specs.Linked.{opening_cells}
 use Rattle.pc_words.specs.declared.word.WordKind.{WordKind}
 use Rattle.pc_words.specs.declared.word.WordKind.TheVariants.{Install, Exchange}
@@ -24,23 +24,26 @@ use Rattle.pc_words.specs.declared.status.Status.{Status}
 use Rattle.pc_words.specs.Words.{kind, IsWord}
 use Rattle.pc_words.specs.Statuses.{unpacked, StageInRange, StatusInRange, IsStatus}
 use Rattle.pc_words.proofs.Statuses.{packed_unpacked, unpacked_in_range}
-use Rattle.pc_exchange_law.specs.Passes.{PassKnows}
+use Rattle.pc_exchange_law.specs.SlotCounts.{count_of, nodes_made}
+use Rattle.pc_exchange_law.specs.Wholes.{SlotsAt, Whole, slots_at, all_slots_at}
+use Rattle.pc_exchange_law.proofs.ShareCounts.{counts_resting}
 use Rattle.pc_protocol.proofs.Stages.{same_stamp}
 use Rattle.pc_exchange_law.specs.TieLaws.{run_up_to, maker_of}
 use Rattle.pc_exchange_law.specs.Ties.{code, CellsAreSound}
 use Rattle.pc_exchange_law.specs.WholeSeats.{IsWholeClosed}
 use Rattle.pc_rule_law.specs.declared.share.Share.{Share}
 use Rattle.pc_rule_law.specs.Past.{Has}
-use Rattle.pc_rule_law.specs.Board.{Size, board_in, own_status, at_own, at_cell, place_number, address}
+use Rattle.pc_rule_law.specs.Board.{Size, board_in, own_status, at_own, at_cell, place_number, address, start_of}
 use Rattle.pc_rule_law.specs.Values.{IsPlainValue, HasPlainValue}
 use Rattle.pc_rule_law.proofs.ReadingBack.{Refers, word_is_stored, is_no_install, status_is_stored, refers, left_has}
 use Rattle.pc_rule.specs.declared.board.Board.{Board}
 use Rattle.pc_rule.specs.declared.board.Pass.{Pass}
 use Rattle.pc_rule.specs.declared.closed.Closed.{Closed}
 use Rattle.pc_rule.specs.Closed.{closed_size}
-use Rattle.pc_rule.specs.Left.{words_left, board_left, told_by, IsLeftByRun}
-use Rattle.pc_rule.specs.Passes.{board_size}
+use Rattle.pc_rule.specs.Left.{words_left, board_left, told_by, slots_by, IsLeftByRun}
+use Rattle.pc_rule.specs.Passes.{whole, view, knows, board_size}
 use Rattle.pc_rule.specs.Sizes.{size_from, IsOfClosed}
+use Rattle.pc_rule.proofs.Noted.{slots_among}
 use Rattle.pc_rule.proofs.Remaining.{closed_stands}
 
 -- what stands at an index
@@ -90,10 +93,11 @@ never_both : (s : ℕ) (cause : Cause) → committed s ≡ aborted cause → ⊥
 never_both s cause e = cc
 
 -- the words that a board leaves say the cells that its run leaves
-pub run_left : {H : Type 0} {S : Ghosts H} (c : Closed H S) (b : Board H) (k : PassKnows) (words : List ℕ) → words_left c ≡ words
-    → closed_size c ≡ board_size b → IsWholeClosed S.form (board_size b) k words
-    → (passes : List (Pass H S)) → told_by passes ≡ k.told → IsLeftByRun c (opening_cells (board_size b).starts.version) passes
-run_left {S = S} c b k words left sized w passes told = record {
+pub run_left : {H : Type 0} {S : Ghosts H} (c : Closed H S) (b : Board H) (x : Whole) (words : List ℕ) → words_left c ≡ words
+    → closed_size c ≡ board_size b → IsWholeClosed S.form (board_size b) x words
+    → (passes : List (Pass H S)) → told_by passes ≡ x.knows.told → slots_by passes ≡ all_slots_at x
+    → IsLeftByRun c (opening_cells (board_size b).starts.version) passes
+run_left {S = S} c b x words left sized w passes told slots = record {
   begin = w.history.opening;
   begins = w.begins;
   run = run_up_to w.history;
@@ -118,10 +122,16 @@ run_left {S = S} c b k words left sized w passes told = record {
       );
   lost = λ x p a cause is among made. never_both x.stamp cause (sym (w.run.made x (code p a) among made) ∙ (w.told (verdict (code p a) (aborted cause)) (subst (λ (l : List Note). Has l (verdict (code p a) (aborted cause))) told is)).0);
   read = λ s e has. w.run.item_stands s e (w.told (in_run s e) (subst (λ (l : List Note). Has l (in_run s e)) told has));
+  reads_stand = λ n v k b f has one among late is. let saw = w.told (read_word n v f k b) (subst (λ (l : List Note). Has l (read_word n v f k b)) told has) in
+      let here = w.run.before one among in
+      ap (λ (d : Cells). d n f) here ∙ saw.1.1 one.stamp late (sym (ap (λ (d : Cells). d n Version) here) ∙ is);
+  counted = λ i p at rests. subst (λ (z : Size). (knows p).slots.next ≡ start_of z (view p).seat + (count_of (knows p).slots.spare + nodes_made z (view p).seat (run_up_to w.history))) (sym sized)
+      (counts_resting (board_size b) w.history (view p).seat (knows p).own (knows p).slots
+      (w.owned (slots_at (whole p)) (subst (λ (l : List SlotsAt). Has l (slots_at (whole p))) slots (slots_among passes i p at))) (p.one_attempt.busy ∙ rests));
 }
 
 -- and no install stands in them
-pub none_stand : {H : Type 0} (b : Board H) (form : Form) (k : PassKnows) (words : List ℕ) → IsWholeClosed form (board_size b) k words → (shares : List Share) → shares ≡ b.shares.items
+pub none_stand : {H : Type 0} (b : Board H) (form : Form) (x : Whole) (words : List ℕ) → IsWholeClosed form (board_size b) x words → (shares : List Share) → shares ≡ b.shares.items
     → let z = size_from b.seats b.slots shares b.starts in
     (n : ℕ) (f : Field) → IsNode z.slots n → (q k : ℕ) → (board_in z words).cell n f ≢ Install q k
-none_stand b form k words c shares same = is_no_install (CellsAreSound form) (size_from b.seats b.slots shares b.starts) words (closed_stands b form k words c shares same).1.closed
+none_stand b form x words c shares same = is_no_install (CellsAreSound form) (size_from b.seats b.slots shares b.starts) words (closed_stands b form x words c shares same).1.closed

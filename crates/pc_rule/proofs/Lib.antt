@@ -3,6 +3,7 @@ pub mod BoardSizes
 pub mod Calls
 pub mod Ends
 pub mod Filling
+pub mod HeldSlots
 pub mod Left
 pub mod Listing
 pub mod Noted

@@ -4,8 +4,8 @@ use Rattle.pc_model.specs.Forms.{Form}
 use Rattle.pc_rule_law.specs.declared.opening.Starts.{Starts}
 use Rattle.pc_rule_law.specs.declared.share.Share.{Share}
 use Rattle.pc_rule_law.specs.Board.{Size}
-use Rattle.pc_exchange_law.specs.Passes.{PassKnows}
 use Rattle.pc_exchange_law.specs.WholeSeats.{IsWholeClosed}
+use Rattle.pc_exchange_law.specs.Wholes.{Whole}
 use Rattle.pc_rule.specs.declared.board.Board.{Board}
 use Rattle.pc_rule.specs.Passes.{board_size}
 use Rattle.pc_rule.specs.Sizes.{size_from, IsOfClosed}
@@ -17,6 +17,6 @@ module _ {H : Type 0} (b : Board H) where
       ∙ (ap (λ (l : List Share). size_from key.seats key.slots l b.starts) (same ∙ b.sized.2)
       ∙ ap (λ (s : Starts). size_from key.seats key.slots key.shares.items s) b.started))
 
-  pub closed_stands : (form : Form) (k : PassKnows) (words : List ℕ) → IsWholeClosed form (board_size b) k words → (shares : List Share)
+  pub closed_stands : (form : Form) (x : Whole) (words : List ℕ) → IsWholeClosed form (board_size b) x words → (shares : List Share)
       → shares ≡ b.shares.items → IsOfClosed form (size_from b.seats b.slots shares b.starts) words
-  closed_stands form k words c shares same = (k, subst (λ (z : Size). IsWholeClosed form z k words) (sym (same_size shares same)) c)
+  closed_stands form x words c shares same = (x, subst (λ (z : Size). IsWholeClosed form z x words) (sym (same_size shares same)) c)

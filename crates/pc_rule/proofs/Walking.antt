@@ -138,12 +138,13 @@ check_stays p n r q k may c = ⊎_elim
 pub record DrawStays (x y : Whole) : Type 0 where
   pub view : y.view ≡ x.view
   pub own : y.knows.own ≡ x.knows.own
+  pub slots : y.knows.slots ≡ x.knows.slots
   pub path : Stays x.path y.path
 
 pub draw_stays : (x : Whole) (r : ℕ) (y : Whole) → ReadDrawn x r y → DrawStays x y
 draw_stays x r y d = ⊎_elim
-    (λ early. subst (DrawStays x) (sym (d.stamped early)) (record { view = refl; own = refl; path = record { begun = refl; visits = refl } }))
-    (λ late. subst (DrawStays x) (sym (d.refused late)) (record { view = refl; own = refl; path = record { begun = refl; visits = refl } }))
+    (λ early. subst (DrawStays x) (sym (d.stamped early)) (record { view = refl; own = refl; slots = refl; path = record { begun = refl; visits = refl } }))
+    (λ late. subst (DrawStays x) (sym (d.refused late)) (record { view = refl; own = refl; slots = refl; path = record { begun = refl; visits = refl } }))
     (cases_lt r last_stamp)
 
 -- ---- a load that counts as a visit

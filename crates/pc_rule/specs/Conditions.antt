@@ -11,7 +11,7 @@ use Rattle.pc_rule_law.specs.Board.{Size}
 use Rattle.pc_rule_law.specs.Past.{Attempt, Has, Describes}
 use Rattle.pc_rule_law.specs.Views.{View, word_in}
 use Rattle.pc_rule_law.specs.Conditions.{CanPlace, CanTake}
-use Rattle.pc_exchange_law.specs.ExchangeConditions.{MayPublish as CanPublish}
+use Rattle.pc_exchange_law.specs.ExchangeConditions.{MayPublish as CanPublish, MayFill}
 use Rattle.pc_exchange_law.specs.Knowing.{IsAboveSeen, after_publication}
 use Rattle.pc_exchange_law.specs.OwnSlots.{MakesOwn, makes_one}
 use Rattle.pc_exchange_law.specs.Passes.{PassKnows}
@@ -35,14 +35,18 @@ MayPublish form z x new = (e : Attempt) × (c : ℕ) × (keys : List ℕ)
     × (new ≡ packed (record { number = x.knows.own.number + 1; stage = Undecided })) × (e.fresh ≡ None)
     × CanPublish form z x.knows x.path e c keys
 
--- what the pass knows beside its view after it published: that its next attempt is an exchange, which the stored words describe,
--- and which was published with a clock that was loaded before, above each stamp that the pass had seen; and its reads go by its mode
 -- the same of an attempt that makes the spare's node
 abbrev pub MayPublishFresh : Form → Size → Whole → ℕ → Type 0
 MayPublishFresh form z x new = (e : Attempt) × (c : ℕ) × (keys : List ℕ)
     × (new ≡ packed (record { number = x.knows.own.number + 1; stage = Undecided })) × (makes_one e.fresh ≡ true)
     × CanPublish form z x.knows x.path e c keys
 
+-- the new word is the number that the pass may fill into this word of its spare
+abbrev pub MayFillWord : PassKnows → ℕ → Field → ℕ → Type 0
+MayFillWord k n f new = (v : ℕ) × (new ≡ raw (Plain v)) × MayFill k n f v
+
+-- what the pass knows beside its view after it published: that its next attempt is an exchange, which the stored words describe,
+-- and which was published with a clock that was loaded before, above each stamp that the pass had seen; and its reads go by its mode
 abbrev pub KnowsPublished : Whole → PassKnows → Type 0
 KnowsPublished x k = (e : Attempt) × (c : ℕ) × Describes x.view.size.slots e (word_in x.knows.own.words) × Has x.knows.told (clock_was c)
     × (k ≡ after_publication x.knows (code x.view.seat (x.knows.own.number + 1)) (exchange_of e) c) × CountsReads x.path e × IsAboveSeen x.knows.told c × (e.fresh ≡ None)

@@ -1,5 +1,5 @@
 -- What is asked of the steps by which an exchange is decided and cleared, with the raw words that they find and put.
-use Rattle.std.specs.Prelude.{◌≡◌, ◌⊎◌, ℕ}
+use Rattle.std.specs.Prelude.{◌≡◌, ◌⊎◌, ℕ, Bool, true, false}
 use Rattle.pc_model.specs.declared.cell.Field.{Field}
 use Rattle.pc_words.specs.declared.word.WordKind.TheVariants.{Plain, Exchange}
 use Rattle.pc_words.specs.declared.status.Stage.TheVariants.{Idle, Undecided, Succeeded, Withdrawn}
@@ -8,8 +8,8 @@ use Rattle.pc_words.specs.Words.{raw}
 use Rattle.pc_rule_law.specs.Board.{Size}
 use Rattle.pc_rule_law.specs.Past.{Has}
 use Rattle.pc_rule_law.specs.Views.{IsAttempt}
-use Rattle.pc_protocol.specs.Histories.{Cause}
-use Rattle.pc_protocol.specs.Notes.{drew}
+use Rattle.pc_protocol.specs.Histories.{Cause, Stage, absent, undecided, committed, aborted}
+use Rattle.pc_protocol.specs.Notes.{drew, verdict}
 use Rattle.pc_exchange_law.specs.Changes.{stage_by}
 use Rattle.pc_exchange_law.specs.ExchangeConditions.{MayDrawFor, MaySucceed, MayFail, MayTakeReference, MayClear}
 use Rattle.pc_exchange_law.specs.Passes.{PassKnows}
@@ -48,6 +48,17 @@ MayWithdraw k old new = (old ≡ packed (record { number = k.own.number; stage =
 abbrev pub MayPutNumber : Size → Whole → ℕ → Field → ℕ → ℕ → Type 0
 MayPutNumber z x n f old new = (p : ℕ) × (a : ℕ) × (v : ℕ) × (old ≡ raw (Exchange p a)) × (new ≡ raw (Plain v)) × IsAttempt z p a
     × MayTakeReference x.view x.knows p a n f v
+
+-- whether an exchange that came so far took effect
+abbrev pub took_effect : Stage → Bool
+took_effect absent = false
+took_effect undecided = false
+took_effect (committed s) = true
+took_effect (aborted cause) = false
+
+-- the pass knows how its last attempt was decided, and whether it took effect
+abbrev pub KnowsOutcome : Whole → Bool → Type 0
+KnowsOutcome x won = (st : Stage) × Has x.knows.told (verdict (code x.view.seat x.knows.own.number) st) × (won ≡ took_effect st)
 
 -- the new status says that the own attempt is idle, which may be cleared
 abbrev pub MayClearOwn : Whole → ℕ → Type 0

@@ -4,6 +4,7 @@ pub mod Carrying
 pub mod Closed
 pub mod Conditions
 pub mod Deciding
+pub mod HeldSlots
 pub mod Left
 pub mod Listed
 pub mod Opened

@@ -17,7 +17,7 @@ use Rattle.pc_rule.specs.Recorded.{HasRoomFor}
 
 -- what the last pass that was made knows, at its seat
 abbrev pub last_whole : Opening → ℕ → Whole
-last_whole o i = record { view = new_view (size_of o) i false []; knows = knows_nothing (size_of o) i; aim = (0, 0); path = new_path }
+last_whole o i = record { view = new_view (size_of o) i false []; knows = knows_nothing (size_of o) i; aim = (0, 0); path = new_path; taken = [] }
 
 module _ {H : Type 0} {S : Ghosts H} where
   -- these passes have the seats from 0 on, none is the last one, and none recorded a call, takes one along or lists a word

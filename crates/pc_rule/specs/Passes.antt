@@ -1,14 +1,16 @@
 -- What clauses say of a board and its passes.
-use Rattle.std.specs.Prelude.{◌≡◌, ℕ, ◌+◌, ◌<◌, ◌≤◌, List, [], length, Option, None, vec_capacity}
+use Rattle.std.specs.Prelude.{◌≡◌, ℕ, ◌+◌, ◌<◌, ◌≤◌, Bool, List, [], length, Option, None, vec_capacity}
 use mathlib.Core.Option.{some}
 use lib.ListN.{get_elem?}
 use Rattle.pc_model.specs.declared.call.Entry.{Entry}
 use Rattle.pc_model.specs.declared.shape.Shape.{Ghosts}
 use Rattle.pc_model.specs.Cells.{IsNode}
+use Rattle.pc_model.specs.Exchanges.{FreshNode}
 use Rattle.pc_rule_law.specs.Board.{Size}
 use Rattle.pc_rule_law.specs.Views.{View}
 use Rattle.pc_rule_law.specs.Plays.{IsWell}
 use Rattle.pc_rule_law.specs.Tables.{size_of}
+use Rattle.pc_exchange_law.specs.OwnSlots.{OwnSlots}
 use Rattle.pc_exchange_law.specs.Passes.{PassKnows}
 use Rattle.pc_exchange_law.specs.Paths.{Path}
 use Rattle.pc_exchange_law.specs.Wholes.{Whole}
@@ -19,6 +21,7 @@ use Rattle.pc_rule.specs.declared.records.Carried.{Carried}
 use Rattle.pc_rule_law.specs.declared.share.Share.{Share}
 use Rattle.pc_rule.specs.declared.visit.Visit.{Visit}
 use Rattle.pc_rule.specs.Carrying.{entries_of}
+use Rattle.pc_rule.specs.HeldSlots.{node_made}
 use Rattle.pc_rule.specs.Walking.{path_with}
 
 module _ {H : Type 0} where
@@ -53,6 +56,17 @@ module _ {H : Type 0} {S : Ghosts H} where
 
   abbrev pub path : Pass H S → Path
   path p = path_with (visits p) (whole p).path
+
+  -- what it has of its slots; the node that the next exchange of its running operation makes; and whether its attempt that isn't cleared
+  -- is known to have taken effect, as it was told
+  abbrev pub slots : Pass H S → OwnSlots
+  slots p = (knows p).slots
+
+  abbrev pub fresh : Pass H S → Option FreshNode
+  fresh p = node_made p.slots.filled (slots p)
+
+  abbrev pub told_won : Pass H S → Bool
+  told_won p = p.slots.won
 
   -- what a pass has of its board, and the calls that it recorded
   abbrev pub share_of : Pass H S → Share
@@ -92,34 +106,48 @@ module _ {H : Type 0} {S : Ghosts H} where
       × ((view new).last ≡ (view old).last) × ((view new).rest ≡ (view old).rest) × IsWell (view new)
       × (share_of new ≡ share_of old) × (new.records ≡ old.records)
 
-  -- and it lists the same words
+  -- it has the same of its slots
+  abbrev pub KeepsSlots : Pass H S → Pass H S → Type 0
+  KeepsSlots old new = (slots new ≡ slots old) × (new.slots ≡ old.slots)
+
+  -- the pass is where it was, lists the same words, and has the same slots
   abbrev pub StaysSeated : Pass H S → Pass H S → Type 0
-  StaysSeated old new = IsSeatedAs old new × (new.listed ≡ old.listed)
+  StaysSeated old new = IsSeatedAs old new × (new.listed ≡ old.listed) × KeepsSlots old new
 
   -- it has visited and read the same
   abbrev pub KeepsPath : Pass H S → Pass H S → Type 0
   KeepsPath old new = ((whole new).path ≡ (whole old).path) × (new.visits ≡ old.visits)
 
   -- the pass is where it was, lists the same words, and has visited and read the same
+  abbrev pub IsSameButSlots : Pass H S → Pass H S → Type 0
+  IsSameButSlots old new = IsSeatedAs old new × (new.listed ≡ old.listed) × KeepsPath old new
+
+  -- and it has the same slots
   abbrev pub IsSamePass : Pass H S → Pass H S → Type 0
-  IsSamePass old new = IsSeatedAs old new × (new.listed ≡ old.listed) × KeepsPath old new
+  IsSamePass old new = IsSeatedAs old new × (new.listed ≡ old.listed) × KeepsPath old new × KeepsSlots old new
+
+  -- nothing but what it has of its slots at run time changed
+  abbrev pub OnlySlots : Pass H S → Pass H S → Type 0
+  OnlySlots old new = (new.seat ≡ old.seat) × (share_of new ≡ share_of old) × (new.records ≡ old.records) × (new.listed ≡ old.listed)
+      × (new.visits ≡ old.visits)
 
   -- nothing but its list changed
   abbrev pub OnlyListed : Pass H S → Pass H S → Type 0
-  OnlyListed old new = (new.seat ≡ old.seat) × (share_of new ≡ share_of old) × (new.records ≡ old.records) × (new.visits ≡ old.visits)
+  OnlyListed old new = (new.seat ≡ old.seat) × (share_of new ≡ share_of old) × (new.records ≡ old.records) × (new.visits ≡ old.visits) × (new.slots ≡ old.slots)
 
   -- nothing but its visits changed
   abbrev pub OnlyVisited : Pass H S → Pass H S → Type 0
-  OnlyVisited old new = (new.seat ≡ old.seat) × (share_of new ≡ share_of old) × (new.records ≡ old.records) × (new.listed ≡ old.listed)
+  OnlyVisited old new = (new.seat ≡ old.seat) × (share_of new ≡ share_of old) × (new.records ≡ old.records) × (new.listed ≡ old.listed) × (new.slots ≡ old.slots)
 
   -- nothing but the call that it is to record changed; and nothing but what it recorded and is to record
   abbrev pub OnlyCarried : Pass H S → Pass H S → Type 0
   OnlyCarried old new = (new.seat ≡ old.seat) × (share_of new ≡ share_of old) × (new.records.entries ≡ old.records.entries)
-      × (new.listed ≡ old.listed) × (new.visits ≡ old.visits)
+      × (new.listed ≡ old.listed) × (new.visits ≡ old.visits) × (new.slots ≡ old.slots)
 
   abbrev pub OnlyRecorded : Pass H S → Pass H S → Type 0
   OnlyRecorded old new = (new.seat ≡ old.seat) × (share_of new ≡ share_of old)
       × (vec_capacity new.records.entries ≡ vec_capacity old.records.entries) × (new.listed ≡ old.listed) × (new.visits ≡ old.visits)
+      × (new.slots ≡ old.slots)
 
   -- the pass is where it was, on the same board, with the same share and as much room for calls, of which it may have recorded one
   abbrev pub SitsAs : Pass H S → Pass H S → Type 0

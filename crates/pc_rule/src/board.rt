@@ -1,13 +1,15 @@
 //! The board, and what a pass steps on it with.
 ghost use Rattle.std.specs.Option.{ForSome};
-ghost use Rattle.std.specs.Prelude.{◌≡◌, ◌+◌, ◌*◌, ◌<◌, ◌≤◌, [], true, length, vec_capacity};
-ghost use Rattle.pc_rule_law.specs.Board.{owns_begin, stride, words_of};
+ghost use Rattle.std.specs.Prelude.{◌≡◌, ℕ, ◌+◌, ◌*◌, ◌^◌, ◌<◌, ◌≤◌, [], true, false, length, vec_capacity};
+ghost use Rattle.pc_rule_law.specs.Board.{owns_begin, start_of, stride, words_of};
 ghost use Rattle.pc_rule_law.specs.Tables.{size_of};
 ghost use Rattle.pc_rule.specs.Attempts.{AgreeOnAttempt};
+ghost use Rattle.pc_rule.specs.HeldSlots.{HoldsSlots};
 ghost use Rattle.pc_rule.specs.Listed.{AreListed};
 ghost use Rattle.pc_rule.specs.Stored.{install_of, HoldsWords};
 ghost use Rattle.pc_rule.specs.Walking.{HoldsPath};
 
+use crate::held_slots::HeldSlots;
 use crate::opening::Place;
 use crate::records::Records;
 use crate::stored::InstallWords;
@@ -32,10 +34,12 @@ pub struct Board<H: Shape> {
     ghost sized: { (seats ≡ table.shared.key.seats) × (slots ≡ table.shared.key.slots) × (shares.items ≡ table.shared.key.shares.items) },
     ghost wide: { (table.shared.table_id.words ≡ words_of (size_of table.shared.key)) × (table.shared.table_id.slots ≡ 0) },
     ghost small: { (seats ≤ 32) × (slots ≤ 61000) },
+    ghost early: { starts.version < 2 ^ 60 },
+    ghost shared: { (j : ℕ) → start_of (size_of table.shared.key) j ≤ slots + 2 },
 }
 
 /// A seat at a board, with what its pass knows, the words that stand in its own descriptors, the calls that it recorded and the one
-/// that it is to record, the words that it lists for its exchange, and the nodes that it visited in the operation that it has begun. The pass with the highest seat
+/// that it is to record, the words that it lists for its exchange, the nodes that it visited in the operation that it has begun, and what it has of its slots. The pass with the highest seat
 /// has room for the calls of all passes, which it takes in at the closing.
 #[derive(Drop)]
 pub struct Pass<H: Shape> {
@@ -50,6 +54,7 @@ pub struct Pass<H: Shape> {
     /// The first words of its descriptor.
     pub(crate) words: Vec<u64>,
     pub(crate) share: Share,
+    pub(crate) slots: HeldSlots,
     pub(crate) records: Records,
     pub(crate) listed: Vec<Place>,
     pub(crate) begun: bool,
@@ -70,4 +75,6 @@ pub struct Pass<H: Shape> {
     ghost ample: { 25 + seat.me.0.view.size.slots ≤ vec_capacity listed },
     ghost listing: { AreListed seat.me.0.view.size.slots listed.items },
     ghost walking: { HoldsPath seat.me.0 begun visits.items (vec_capacity visits) },
+    ghost holding: { HoldsSlots seat.me.0 slots },
+    ghost resting: { published ≡ false → slots.named ≡ false },
 }

@@ -14,8 +14,9 @@ use std::marker::PhantomData;
 
 /// Closes a board with all its passes, in the order of their numbers, of which no install stands. Each word that is left has
 /// one plain value: that of the cells that the run of the passes' exchanges leaves, in which those stand that they know to have
-/// taken effect. What is left has also the calls that the
-/// passes recorded, by rising stamps. It takes no memory and can't be refused.
+/// taken effect. Of each pass with nothing published, the next free slot is the first of its share, and as many on as it has a spare (0 or 1) and
+/// the run makes nodes in its share. What is left has also the calls that the passes recorded, by rising stamps. It takes no memory
+/// and can't be refused.
 pub fn close_board<H: Shape>(board: Board<H>, mut passes: Vec<Pass<H>>) -> Closed<H>
     requires passes { AreAll board passes.items }
     ensures installs { HasNoInstall result }

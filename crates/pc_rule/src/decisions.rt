@@ -1,7 +1,7 @@
 //! The steps by which an exchange is decided and cleared, one call for each kind, by the numbers of the kinds of step. Any pass
 //! may make those of 13, 14 and 15, for its own attempt or for that of another. `of` is the number of the pass whose word is
 //! meant, from 1.
-ghost use Rattle.std.specs.Prelude.{◌≡◌, ◌-◌, ◌<◌, ◌≤◌};
+ghost use Rattle.std.specs.Prelude.{◌≡◌, ◌-◌, ◌<◌, ◌≤◌, None};
 ghost use Rattle.pc_words.specs.Statuses.{unpacked};
 ghost use Rattle.pc_exchange_law.specs.Knowing.{after_draw, after_refusal, after_decision, after_withdrawal, after_clearing};
 ghost use Rattle.pc_exchange_law.specs.Ties.{code, last_stamp};
@@ -10,8 +10,8 @@ ghost use Rattle.pc_protocol.specs.Histories.{Stage, withdrawn, aborted};
 ghost use Rattle.pc_protocol.specs.Notes.{verdict};
 ghost use Rattle.pc_rule_law.specs.Past.{Has};
 ghost use Rattle.pc_rule.specs.declared.refs.RefKind.TheVariants.{Exchange};
-ghost use Rattle.pc_rule.specs.Deciding.{MayDraw, MayDecide, MayWithdraw, MayPutNumber, MayClearOwn};
-ghost use Rattle.pc_rule.specs.Passes.{whole, view, knows, board_size, IsPassOf, IsSamePass, HasNode, HasPass};
+ghost use Rattle.pc_rule.specs.Deciding.{MayDraw, MayDecide, MayWithdraw, MayPutNumber, MayClearOwn, KnowsOutcome};
+ghost use Rattle.pc_rule.specs.Passes.{whole, view, knows, fresh, told_won, board_size, IsPassOf, IsSamePass, IsSameButSlots, HasNode, HasPass};
 
 use crate::board::{Board, Pass};
 use crate::refs::Ref;
@@ -87,11 +87,14 @@ pub fn step_15<H: Shape>(
         .compare_exchange::<WholeTakeReference>(&mut pass.seat, word, old, new)
 }
 
-/// The own attempt is cleared: a store of the status that says that it is idle.
+/// The own attempt is cleared: a store of the status that says that it is idle. The pass was told whether it took effect: where it did,
+/// and made the spare's node, the pass has no spare any more.
 pub fn step_16<H: Shape>(board: &Board<H>, pass: &mut Pass<H>, new: u64)
     requires pass { IsPassOf board.now pass.old }
     requires may { MayClearOwn (whole pass.old) new }
-    ensures pass { IsSamePass pass.old pass.new }
+    requires outcome { KnowsOutcome (whole pass.old) (told_won pass.old) }
+    ensures pass { IsSameButSlots pass.old pass.new }
+    ensures makes { fresh pass.new ≡ None }
     ensures told { (st : Stage) → Has (knows pass.old).told (verdict (code (view pass.old).seat (knows pass.old).own.number) st) → whole pass.new ≡ record (whole pass.old) { view = after_clear (view pass.old); knows = after_clearing (knows pass.old) st } }
 {
     let word = board.word_of(pass, 0);
@@ -100,4 +103,5 @@ pub fn step_16<H: Shape>(board: &Board<H>, pass: &mut Pass<H>, new: u64)
         .shared
         .store::<WholeClear>(&mut pass.seat, word, new);
     pass.published = false;
+    pass.slots = pass.slots.cleared();
 }

@@ -10,7 +10,7 @@ ghost use Rattle.pc_rule_law.specs.Plays.{ClockLoaded, after_write, after_publis
 ghost use Rattle.pc_exchange_law.specs.Knowing.{DescriptorLoaded as WordLoaded, after_own_store};
 ghost use Rattle.pc_exchange_law.specs.WholePlays.{ClockSeen};
 ghost use Rattle.pc_rule.specs.Conditions.{MayPublish, KnowsPublished, MayPublishFresh, KnowsPublishedFresh};
-ghost use Rattle.pc_rule.specs.Passes.{whole, view, knows, aim, board_size, IsPassOf, IsSamePass, HasPass};
+ghost use Rattle.pc_rule.specs.Passes.{whole, view, knows, aim, fresh, board_size, IsPassOf, IsSamePass, IsSameButSlots, HasPass};
 
 use crate::board::{Board, Pass};
 use crate::stored::keep_word;
@@ -53,7 +53,7 @@ pub fn step_10<H: Shape>(board: &Board<H>, pass: &mut Pass<H>, place: u32, new: 
 pub fn step_11<H: Shape>(board: &Board<H>, pass: &mut Pass<H>, new: u64)
     requires pass { IsPassOf board.now pass.old }
     requires may { MayPublish H.form (board_size board.now) (whole pass.old) new }
-    ensures pass { IsSamePass pass.old pass.new }
+    ensures pass { IsSameButSlots pass.old pass.new }
     ensures told { view pass.new ≡ after_publish (view pass.old) }
     ensures learnt { KnowsPublished (whole pass.old) (knows pass.new) }
     ensures aim { aim pass.new ≡ aim pass.old }
@@ -65,13 +65,14 @@ pub fn step_11<H: Shape>(board: &Board<H>, pass: &mut Pass<H>, new: u64)
         .store::<WholePublish>(&mut pass.seat, word, new);
     pass.attempts += 1;
     pass.published = true;
+    pass.slots.named = false;
 }
 
 /// Publishes the own next attempt, which makes the node of the own spare: a step 11.
 pub fn step_11_fresh<H: Shape>(board: &Board<H>, pass: &mut Pass<H>, new: u64)
     requires pass { IsPassOf board.now pass.old }
     requires may { MayPublishFresh H.form (board_size board.now) (whole pass.old) new }
-    ensures pass { IsSamePass pass.old pass.new }
+    ensures pass { IsSameButSlots pass.old pass.new }
     ensures told { view pass.new ≡ after_publish (view pass.old) }
     ensures learnt { KnowsPublishedFresh (whole pass.old) (knows pass.new) }
     ensures aim { aim pass.new ≡ aim pass.old }
@@ -83,6 +84,7 @@ pub fn step_11_fresh<H: Shape>(board: &Board<H>, pass: &mut Pass<H>, new: u64)
         .store::<WholePublishFresh>(&mut pass.seat, word, new);
     pass.attempts += 1;
     pass.published = true;
+    pass.slots.named = true;
 }
 
 /// A load of a word of a descriptor.

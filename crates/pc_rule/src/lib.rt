@@ -11,6 +11,7 @@ mod closed;
 mod closing;
 mod decisions;
 mod exchanges;
+mod held_slots;
 mod life;
 mod listed;
 mod numbered;

@@ -11,15 +11,19 @@ ghost use Rattle.pc_rule_law.specs.Conditions.{IsFree};
 ghost use Rattle.pc_rule_law.specs.Openings.{MayOpen};
 ghost use Rattle.pc_rule_law.specs.Seats.{joined_by};
 ghost use Rattle.pc_rule_law.specs.Tables.{size_of};
+ghost use Rattle.pc_exchange_law.specs.OwnSlots.{first_slots};
 ghost use Rattle.pc_exchange_law.specs.Ties.{last_stamp};
 ghost use Rattle.pc_exchange_law.specs.WholeSeats.{first_whole, whole_maker, whole_made, IsWholeClosed};
 ghost use Rattle.pc_rule.specs.Passes.{whole, view, knows, board_size, share_of, recorded, listed, IsBlank, SitsAt, IsPassOf};
 ghost use Rattle.pc_rule.specs.Recorded.{calls_of, recorded_by, HasRoomFor};
-ghost use Rattle.pc_rule.specs.Left.{told_by};
+ghost use Rattle.pc_exchange_law.specs.Wholes.{all_slots_at};
+ghost use Rattle.pc_rule.specs.Left.{told_by, slots_by};
 ghost use Rattle.pc_rule.specs.Opened.{AreOpened, AreInOrder};
+ghost use Rattle.pc_rule.specs.Shares.{slots_of};
 ghost use Rattle.pc_rule.specs.Stored.{HoldsWords};
 
 use crate::board::{Board, Pass};
+use crate::held_slots::HeldSlots;
 use crate::listed::list_room;
 use crate::opening::{Place, words_start};
 use crate::places::own_place;
@@ -46,6 +50,7 @@ impl<H: Shape> Board<H> {
         requires early { opening.now.starts.stamp ≤ last_stamp }
         requires shares { (length shares.now ≡ opening.now.seats) × (1 ≤ length shares.now) }
         requires kept { opening.now.shares.items ≡ shares.now }
+        requires slots { slots_of shares.now ≤ opening.now.slots }
         ensures opened { IfOk result (λ r. (board_size r.0 ≡ size_of opening.now) × (r.0.shares.items ≡ shares.now) × IsPassOf r.0 r.1 × (whole r.1 ≡ first_whole (size_of opening.now))) }
         ensures room { IfOk result (λ r. IsBlank r.1 × (1 ≡ length shares.now → HasRoomFor shares.now r.1)) }
         ensures list { IfOk result (λ r. listed r.1 ≡ []) }
@@ -77,6 +82,7 @@ impl<H: Shape> Board<H> {
             published: false,
             words: stored,
             share: shares[0],
+            slots: HeldSlots::new(2, shares[0].slots),
             records: Records {
                 entries,
                 carried: None,
@@ -103,6 +109,7 @@ impl<H: Shape> Board<H> {
     ) -> Pass<H>
         requires pass { IsPassOf self.now last.old × ((view last.old).last ≡ true) }
         requires index { ((view last.old).seat + 1 ≡ index) × (index < (board_size self.now).seats) }
+        requires slots { (knows last.old).slots ≡ first_slots (board_size self.now) (view last.old).seat }
         requires share { get_elem? self.now.shares.items index ≡ some share }
         requires room { (entries.items ≡ []) × (share.calls ≤ vec_capacity entries) }
         requires words { HoldsWords [] words.items }
@@ -127,6 +134,7 @@ impl<H: Shape> Board<H> {
             published: false,
             words,
             share,
+            slots: HeldSlots::new(last.slots.until, share.slots),
             records: Records {
                 entries,
                 carried: None,
@@ -149,6 +157,7 @@ impl<H: Shape> Board<H> {
         requires early { opening.now.starts.stamp ≤ last_stamp }
         requires shares { (length shares.now ≡ opening.now.seats) × (1 ≤ length shares.now) }
         requires kept { opening.now.shares.items ≡ shares.now }
+        requires slots { slots_of shares.now ≤ opening.now.slots }
         ensures { IfOk result (λ r. (board_size r.0 ≡ size_of opening.now) × (r.0.shares.items ≡ shares.now) × AreOpened r.0 opening.now r.1.items) }
     {
         let mut passes = Vec::with_capacity(alloc, opening.seats)?;
@@ -184,6 +193,7 @@ impl<H: Shape> Board<H> {
         requires room { length (recorded last.old) + length (recorded other) ≤ vec_capacity last.old.records.entries }
         ensures pass { SitsAt self.now last.new × (view last.new ≡ joined_by (view last.old) (view other)) }
         ensures told { (knows last.new).told ≡ (knows other).told ++ (knows last.old).told }
+        ensures slots { all_slots_at (whole last.new) ≡ all_slots_at (whole other) ++ all_slots_at (whole last.old) }
         ensures entries { recorded last.new ≡ recorded last.old ++ recorded other }
         ensures capacity { vec_capacity last.old.records.entries ≤ vec_capacity last.new.records.entries }
     {
@@ -209,6 +219,7 @@ impl<H: Shape> Board<H> {
         ensures pass { SitsAt self.now last.new × (view last.new ≡ record (view last.old) { rest = 0 }) }
         ensures entries { IsPermutation (recorded_by others.items ++ recorded last.old) (recorded last.new) }
         ensures told { (knows last.new).told ≡ told_by others.items ++ (knows last.old).told }
+        ensures slots { all_slots_at (whole last.new) ≡ slots_by others.items ++ all_slots_at (whole last.old) }
     {
         while let Some(other) = others.pop() {
             self.take_in(last, other);
@@ -220,7 +231,7 @@ impl<H: Shape> Board<H> {
     pub(crate) fn end(self, last: Pass<H>) -> (Closed<bool, Global>, Vec<Entry>, Vec<Share>)
         requires pass { SitsAt self last × ((view last).last ≡ true) × ((view last).rest ≡ 0) }
         requires free { IsFree (view last) }
-        ensures closed { IsWholeClosed H.form (board_size self) (knows last) (slots_items result.0.words) }
+        ensures closed { IsWholeClosed H.form (board_size self) (whole last) (slots_items result.0.words) }
         ensures laid { IsFull result.0.words × (slots_len result.0.words ≡ words_of (board_size self)) × (slots_len result.0.slots ≡ 0) }
         ensures entries { result.1.items ≡ recorded last }
         ensures shares { result.2 ≡ self.shares }

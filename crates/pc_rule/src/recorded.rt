@@ -1,8 +1,8 @@
 //! What a pass has of a board, and the calls that it recorded.
-ghost use Rattle.std.specs.Prelude.{IfOk, ◌≡◌, [], ◌+◌, ◌-◌, ◌<◌, ◌≤◌, false, not, None, length, vec_capacity};
+ghost use Rattle.std.specs.Prelude.{IfOk, ◌≡◌, [], ◌+◌, ◌-◌, ◌<◌, ◌≤◌, not, None, is_some, length, vec_capacity};
 ghost use mathlib.Core.Option.{some};
 ghost use lib.ListN.{get_elem?};
-ghost use Rattle.pc_rule.specs.Passes.{view, path, share_of, recorded};
+ghost use Rattle.pc_rule.specs.Passes.{view, path, slots, share_of, recorded};
 ghost use Rattle.pc_rule.specs.Recorded.{calls_of};
 ghost use Rattle.pc_rule_law.specs.declared.share.Share.{Share as Part};
 
@@ -79,18 +79,18 @@ impl<H: Shape> Pass<H> {
         (self.share.calls as usize).saturating_sub(recorded) as u32
     }
 
-    /// How many slots it has free: its whole share, until passes take slots.
+    /// How many slots of its share are free, as it hasn't taken them yet.
     pub fn free(&self) -> u32
-        ensures { result ≡ (share_of self.now).slots }
+        ensures { result ≡ (slots self.now).until - (slots self.now).next }
     {
-        self.share.slots
+        self.slots.until - self.slots.next
     }
 
-    /// Whether it has a spare, a slot that it took for a new node: never, until passes take slots.
+    /// Whether it has a spare, a slot that it took for a new node.
     pub fn has_spare(&self) -> bool
-        ensures { result ≡ false }
+        ensures { result ≡ is_some (slots self.now).spare }
     {
-        false
+        self.slots.spare.is_some()
     }
 
     /// How many slots it retired that aren't free yet: none, until passes retire slots.

@@ -10,8 +10,8 @@ use Rattle.pc_rule.specs.Recorded.{recorded_by, HasRoomFor}
 use Rattle.pc_rule.proofs.Rooms.{recorded_last}
 use Rattle.pc_rule.proofs.Remaining.{same_size, closed_stands}
 use Rattle.pc_rule.proofs.Ends.{each_front, each_last}
-use Rattle.pc_rule.specs.Left.{told_by}
-use Rattle.pc_rule.proofs.Noted.{told_last}
+use Rattle.pc_rule.specs.Left.{told_by, slots_by}
+use Rattle.pc_rule.proofs.Noted.{told_last, slots_last}
 use Rattle.pc_rule.proofs.Left.{run_left, none_stand}
 use Rattle.pc_rule.proofs.closing.close_board.Goals as goal
 
@@ -53,6 +53,7 @@ returns-clause-installs g c = none_stand c.args.board g.H.Shape.form _ _ c.end-t
 pub returns-clause-cells : goal.returns-clause-cells
 returns-clause-cells g c = let front = c.pop.new.self.items in run_left _ c.args.board _ _ refl (same_size c.args.board _ (ap (λ v. v.items) c.end-table.ensures.shares)) c.end-table.ensures.closed c.args.passes.items
     (ap told_by c.in-Some.ensures.items ∙ (told_last front c.in-Some.last ∙ sym c.take_all.ensures.told))
+    (ap slots_by c.in-Some.ensures.items ∙ (slots_last front c.in-Some.last ∙ sym c.take_all.ensures.slots))
 
 pub invariant_of-result : goal.invariant_of-result
 invariant_of-result g c = let e = c.end-table.ensures in let b = c.args.board in record {

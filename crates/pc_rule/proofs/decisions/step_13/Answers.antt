@@ -11,6 +11,7 @@ use Rattle.pc_exchange_law.specs.ExchangeConditions.{MayDrawFor}
 use Rattle.pc_exchange_law.specs.Knowing.{after_draw}
 use Rattle.pc_exchange_law.specs.Ties.{code}
 use Rattle.pc_rule.proofs.Attempts.{KeepsOwn, drawn_or_not}
+use Rattle.pc_rule.proofs.HeldSlots.{slots_still}
 use Rattle.pc_rule.proofs.Listing.{still_listed, still_ample}
 use Rattle.pc_rule.proofs.OwnWords.{begin_still, words_still}
 use Rattle.pc_rule.proofs.Telling.{told_at}
@@ -45,6 +46,8 @@ invariant_of-pass g c = let x : Whole = c.args.pass.now.seat.me.0 in let v : Vie
       ample = still_ample v y.view (vec_capacity c.args.pass.now.listed) t.1 c.args.pass.now.ample;
       listing = still_listed v y.view c.args.pass.now.listed.items t.1 c.args.pass.now.listing;
       walking = path_still x y _ _ _ (keeps.path) t.1.4 c.args.pass.now.walking;
+      holding = slots_still x y _ (keeps.slots) t.1.4 c.args.pass.now.holding;
+      resting = c.args.pass.now.resting;
     }
 
 pub returns-clause-drawn : goal.returns-clause-drawn
@@ -60,4 +63,4 @@ returns-clause-pass g c = let x : Whole = c.args.pass.now.seat.me.0 in let v : V
     let t = c.fetch_add.ensures.2 in let y : Whole = c.fetch_add.new.seat.me.0 in
     let told = told_at v z 0 (Draws x c.fetch_add.result c.fetch_add.new.seat.me.0) p c.requires.pass.1 c.fetch_add.ensures.2.2 inside refl in
     let keeps : KeepsOwn x y = drawn_or_not x c.fetch_add.result y told in
-    (search rules, refl, (keeps.path, refl))
+    (search rules, refl, (keeps.path, refl), (keeps.slots, refl))

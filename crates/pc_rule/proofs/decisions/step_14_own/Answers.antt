@@ -8,6 +8,7 @@ use Rattle.pc_exchange_law.specs.WholePlays.{HasWithdrawn}
 use Rattle.pc_exchange_law.specs.Wholes.{Whole}
 use Rattle.pc_exchange_law.proofs.WholeDecisions.{whole_withdraw}
 use Rattle.pc_rule.proofs.Attempts.{KeepsOwn, decided_keeps, tried_keeps}
+use Rattle.pc_rule.proofs.HeldSlots.{slots_still}
 use Rattle.pc_rule.proofs.Listing.{still_listed, still_ample}
 use Rattle.pc_rule.proofs.OwnWords.{begin_still, words_still}
 use Rattle.pc_rule.proofs.Telling.{told_at}
@@ -25,7 +26,7 @@ pub invariant_of-pass : goal.invariant_of-pass
 invariant_of-pass g c = let x : Whole = c.args.pass.now.seat.me.0 in let v : View = x.view in let z : Size = size_of c.args.board.now.table.shared.key in let p : Place = at_own v.seat own_status in let inside : Inside z p = (c.requires.pass.2, tt) in
     let t = c.compare_exchange.ensures.2 in let y : Whole = c.compare_exchange.new.seat.me.0 in
     let told = told_at v z c.word_of-word.result (HasWithdrawn x c.args.old c.compare_exchange.result c.compare_exchange.new.seat.me.0) p c.requires.pass.1 c.compare_exchange.ensures.2.2 inside c.word_of-word.ensures in
-    let keeps : KeepsOwn x y = tried_keeps x v.seat c.args.old c.compare_exchange.result _ y told (λ e. decided_keeps x y v.seat x.knows.own.number _ e refl refl refl) in
+    let keeps : KeepsOwn x y = tried_keeps x v.seat c.args.old c.compare_exchange.result _ y told (λ e. decided_keeps x y v.seat x.knows.own.number _ e refl refl refl refl) in
     record {
       live = t.1.0 ∙ c.args.pass.now.live;
       numbered = t.1.1 ∙ c.args.pass.now.numbered;
@@ -42,6 +43,8 @@ invariant_of-pass g c = let x : Whole = c.args.pass.now.seat.me.0 in let v : Vie
       ample = still_ample v y.view (vec_capacity c.args.pass.now.listed) t.1 c.args.pass.now.ample;
       listing = still_listed v y.view c.args.pass.now.listed.items t.1 c.args.pass.now.listing;
       walking = path_still x y _ _ _ (keeps.path) t.1.4 c.args.pass.now.walking;
+      holding = slots_still x y _ (keeps.slots) t.1.4 c.args.pass.now.holding;
+      resting = c.args.pass.now.resting;
     }
 
 pub returns-clause-told : goal.returns-clause-told
@@ -52,5 +55,5 @@ pub returns-clause-pass : goal.returns-clause-pass
 returns-clause-pass g c = let x : Whole = c.args.pass.now.seat.me.0 in let v : View = x.view in let z : Size = size_of c.args.board.now.table.shared.key in let p : Place = at_own v.seat own_status in let inside : Inside z p = (c.requires.pass.2, tt) in
     let t = c.compare_exchange.ensures.2 in let y : Whole = c.compare_exchange.new.seat.me.0 in
     let told = told_at v z c.word_of-word.result (HasWithdrawn x c.args.old c.compare_exchange.result c.compare_exchange.new.seat.me.0) p c.requires.pass.1 c.compare_exchange.ensures.2.2 inside c.word_of-word.ensures in
-    let keeps : KeepsOwn x y = tried_keeps x v.seat c.args.old c.compare_exchange.result _ y told (λ e. decided_keeps x y v.seat x.knows.own.number _ e refl refl refl) in
-    (search rules, refl, (keeps.path, refl))
+    let keeps : KeepsOwn x y = tried_keeps x v.seat c.args.old c.compare_exchange.result _ y told (λ e. decided_keeps x y v.seat x.knows.own.number _ e refl refl refl refl) in
+    (search rules, refl, (keeps.path, refl), (keeps.slots, refl))

@@ -7,7 +7,8 @@ use Rattle.pc_rule_law.proofs.Places.{within}
 use Rattle.pc_exchange_law.specs.WholePlays.{TookReference}
 use Rattle.pc_exchange_law.specs.Wholes.{Whole}
 use Rattle.pc_exchange_law.proofs.WholeReferences.{whole_take_reference}
-use Rattle.pc_rule.proofs.Attempts.{agree_still, reference_own}
+use Rattle.pc_rule.proofs.Attempts.{agree_still, reference_own, reference_slots}
+use Rattle.pc_rule.proofs.HeldSlots.{slots_still}
 use Rattle.pc_rule.proofs.Listing.{still_listed, still_ample}
 use Rattle.pc_rule.proofs.OwnWords.{begin_still, words_still}
 use Rattle.pc_rule.proofs.Telling.{told_at}
@@ -41,6 +42,8 @@ invariant_of-pass g c = let x : Whole = c.args.pass.now.seat.me.0 in let v : Vie
       ample = still_ample v y.view (vec_capacity c.args.pass.now.listed) t.1 c.args.pass.now.ample;
       listing = still_listed v y.view c.args.pass.now.listed.items t.1 c.args.pass.now.listing;
       walking = path_still x y _ _ _ (told.path) t.1.4 c.args.pass.now.walking;
+      holding = slots_still x y _ (reference_slots x c.args.node c.args.field c.args.old c.args.new c.compare_exchange.result y told) t.1.4 c.args.pass.now.holding;
+      resting = c.args.pass.now.resting;
     }
 
 pub returns-clause-told : goal.returns-clause-told
@@ -51,4 +54,4 @@ pub returns-clause-pass : goal.returns-clause-pass
 returns-clause-pass g c = let x : Whole = c.args.pass.now.seat.me.0 in let v : View = x.view in let z : Size = size_of c.args.board.now.table.shared.key in let p : Place = at_cell c.args.node c.args.field in let inside : Inside z p = c.requires.inside in
     let t = c.compare_exchange.ensures.2 in let y : Whole = c.compare_exchange.new.seat.me.0 in
     let told = told_at v z c.cell_word-word.result (TookReference x c.args.old c.args.new c.compare_exchange.result c.compare_exchange.new.seat.me.0) p c.requires.pass.1 c.compare_exchange.ensures.2.2 inside c.cell_word-word.ensures in
-    (search rules, refl, (told.path, refl))
+    (search rules, refl, (told.path, refl), (reference_slots x c.args.node c.args.field c.args.old c.args.new c.compare_exchange.result y told, refl))

@@ -7,7 +7,10 @@ use Rattle.pc_rule_law.proofs.Places.{within}
 use Rattle.pc_exchange_law.specs.WholePlays.{HasCleared}
 use Rattle.pc_exchange_law.specs.Wholes.{Whole}
 use Rattle.pc_exchange_law.proofs.WholeStores.{whole_clear}
+use Rattle.pc_rule.specs.HeldSlots.{HoldsSlots}
+use Rattle.pc_rule.specs.declared.held_slots.HeldSlots.{HeldSlots}
 use Rattle.pc_rule.specs.Attempts.{AgreeOnAttempt}
+use Rattle.pc_rule.proofs.HeldSlots.{cleared_holds}
 use Rattle.pc_rule.proofs.Listing.{still_listed, still_ample}
 use Rattle.pc_rule.proofs.OwnWords.{begin_still, words_still}
 use Rattle.pc_rule.proofs.Telling.{told_at}
@@ -41,6 +44,8 @@ invariant_of-pass g c = let x : Whole = c.args.pass.now.seat.me.0 in let v : Vie
       ample = still_ample v y.view (vec_capacity c.args.pass.now.listed) t.1 c.args.pass.now.ample;
       listing = still_listed v y.view c.args.pass.now.listed.items t.1 c.args.pass.now.listing;
       walking = path_still x y _ _ _ (ap (λ (u : Whole). u.path) told) t.1.4 c.args.pass.now.walking;
+      holding = subst (HoldsSlots y) (sym c.cleared-pass.ensures) (cleared_holds x y _ c.requires.outcome.0 (ap (λ (u : Whole). u.knows.slots) (told_at v z c.word_of-word.result (HasCleared x c.store.new.seat.me.0) p c.requires.pass.1 c.store.ensures.2.2 inside c.word_of-word.ensures refl c.requires.outcome.0 c.requires.outcome.1)) c.requires.outcome.2 t.1.4 c.args.pass.now.holding);
+      resting = λ _. ap (λ (s : HeldSlots). s.named) c.cleared-pass.ensures;
     }
 
 pub returns-clause-told : goal.returns-clause-told

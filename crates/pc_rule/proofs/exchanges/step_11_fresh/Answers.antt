@@ -1,5 +1,5 @@
 -- The step's lemma, at the address of the word.
-use Rattle.std.proofs.Common.{vec_capacity, true, ◌+◌, refl, sym, ap, ◌∙◌, subst, rules}
+use Rattle.std.proofs.Common.{vec_capacity, true, ◌+◌, refl, sym, ap, ◌∙◌, subst, rules, Bool, ◌≡◌, false}
 use Rattle.pc_rule_law.specs.Board.{Size, Place, at_own, own_status, Inside}
 use Rattle.pc_rule_law.specs.Views.{View}
 use Rattle.pc_rule_law.specs.Tables.{size_of}
@@ -8,6 +8,7 @@ use Rattle.pc_exchange_law.specs.WholePlays.{HasPublished}
 use Rattle.pc_exchange_law.specs.Wholes.{Whole}
 use Rattle.pc_exchange_law.proofs.WholeStores.{whole_publish_fresh}
 use Rattle.pc_rule.specs.Attempts.{AgreeOnAttempt}
+use Rattle.pc_rule.proofs.HeldSlots.{named_holds}
 use Rattle.pc_rule.proofs.Listing.{still_listed, still_ample}
 use Rattle.pc_rule.proofs.OwnWords.{begin_still, words_still}
 use Rattle.pc_rule.proofs.Telling.{told_at}
@@ -41,6 +42,8 @@ invariant_of-pass g c = let x : Whole = c.args.pass.now.seat.me.0 in let v : Vie
       ample = still_ample v y.view (vec_capacity c.args.pass.now.listed) t.1 c.args.pass.now.ample;
       listing = still_listed v y.view c.args.pass.now.listed.items t.1 c.args.pass.now.listing;
       walking = path_still x y _ _ _ (ap (λ (u : Whole). u.path) told.4) t.1.4 c.args.pass.now.walking;
+      holding = named_holds x y _ true (ap (λ (u : Whole). u.knows.slots) told.4 ∙ ap (λ (b : Bool). record x.knows.slots { named = b }) told.8) t.1.4 c.args.pass.now.holding;
+      resting = λ idle. absurd (let clash : true ≡ false = idle in cc);
     }
 
 pub returns-clause-told : goal.returns-clause-told

@@ -1,5 +1,5 @@
 -- The step's lemma, at the address of the word.
-use Rattle.std.proofs.Common.{List, refl, ap, ◌∙◌, vec_capacity}
+use Rattle.std.proofs.Common.{List, refl, ap, ◌∙◌, vec_capacity, rules}
 use Rattle.pc_rule_law.specs.Board.{Size, Place, at_clock, Inside}
 use Rattle.pc_rule_law.specs.Views.{View}
 use Rattle.pc_rule_law.specs.Tables.{size_of}
@@ -10,6 +10,7 @@ use Rattle.pc_exchange_law.proofs.WholeReads.{whole_read_draw}
 use Rattle.pc_rule.specs.declared.visit.Visit.{Visit}
 use Rattle.pc_rule.specs.Walking.{path_with}
 use Rattle.pc_rule.proofs.Attempts.{agree_still}
+use Rattle.pc_rule.proofs.HeldSlots.{slots_still}
 use Rattle.pc_rule.proofs.Listing.{still_listed, still_ample}
 use Rattle.pc_rule.proofs.OwnWords.{begin_still, words_still}
 use Rattle.pc_rule.proofs.Telling.{told_at}
@@ -44,6 +45,8 @@ invariant_of-pass g c = let x : Whole = c.args.pass.now.seat.me.0 in let v : Vie
       ample = still_ample v y.view (vec_capacity c.args.pass.now.listed) t.1 c.args.pass.now.ample;
       listing = still_listed v y.view c.args.pass.now.listed.items t.1 c.args.pass.now.listing;
       walking = path_moved x y _ _ _ stays.path.begun stays.path.visits t.1.4 c.args.pass.now.walking;
+      holding = slots_still x y _ (stays.slots) t.1.4 c.args.pass.now.holding;
+      resting = c.args.pass.now.resting;
     }
 
 pub returns-clause-told : goal.returns-clause-told
@@ -59,3 +62,10 @@ pub returns-clause-refused : goal.returns-clause-refused
 returns-clause-refused g c = let x : Whole = c.args.pass.now.seat.me.0 in let v : View = x.view in let z : Size = size_of c.args.board.now.table.shared.key in let p : Place = at_clock in let inside : Inside z p = tt in let held : List Visit = c.args.pass.now.visits.items in
     let told = told_at v z 0 (DrawsRead x c.fetch_add.result c.fetch_add.new.seat.me.0) p c.requires.pass.1 c.fetch_add.ensures.2.2 inside refl in
     λ late. ap (λ (u : Whole). path_with held u.path) (told.refused late)
+
+pub returns-clause-pass : goal.returns-clause-pass
+returns-clause-pass g c = let x : Whole = c.args.pass.now.seat.me.0 in let v : View = x.view in let z : Size = size_of c.args.board.now.table.shared.key in let p : Place = at_clock in let inside : Inside z p = tt in let held : List Visit = c.args.pass.now.visits.items in
+    let t = c.fetch_add.ensures.2 in let y : Whole = c.fetch_add.new.seat.me.0 in
+    let told = told_at v z 0 (DrawsRead x c.fetch_add.result c.fetch_add.new.seat.me.0) p c.requires.pass.1 c.fetch_add.ensures.2.2 inside refl in
+    let stays = draw_stays x c.fetch_add.result y told in let same = stays.view in let own = stays.own in
+    (search rules, refl, (stays.slots, refl))

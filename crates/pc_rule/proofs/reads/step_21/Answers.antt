@@ -1,5 +1,5 @@
 -- The step's lemma, at the address of the word.
-use Rattle.std.proofs.Common.{List, ap, ◌∙◌, vec_capacity}
+use Rattle.std.proofs.Common.{List, ap, ◌∙◌, vec_capacity, rules, refl}
 use Rattle.pc_model.specs.declared.cell.Field.TheVariants.{Version}
 use Rattle.pc_rule_law.specs.Board.{Size, Place, at_cell, Inside}
 use Rattle.pc_rule_law.specs.Views.{View}
@@ -10,6 +10,7 @@ use Rattle.pc_exchange_law.specs.Wholes.{Whole}
 use Rattle.pc_exchange_law.proofs.WholeReads.{whole_check}
 use Rattle.pc_rule.specs.declared.visit.Visit.{Visit}
 use Rattle.pc_rule.proofs.Attempts.{agree_still}
+use Rattle.pc_rule.proofs.HeldSlots.{slots_still}
 use Rattle.pc_rule.proofs.Listing.{still_listed, still_ample}
 use Rattle.pc_rule.proofs.OwnWords.{begin_still, words_still}
 use Rattle.pc_rule.proofs.Telling.{told_at}
@@ -45,6 +46,8 @@ invariant_of-pass g c = let x : Whole = c.args.pass.now.seat.me.0 in let v : Vie
       ample = still_ample v y.view (vec_capacity c.args.pass.now.listed) t.1 c.args.pass.now.ample;
       listing = still_listed v y.view c.args.pass.now.listed.items t.1 c.args.pass.now.listing;
       walking = path_moved x y _ _ _ stays.begun stays.visits t.1.4 c.args.pass.now.walking;
+      holding = slots_still x y _ (told.0.seen.learns.slots) t.1.4 c.args.pass.now.holding;
+      resting = c.args.pass.now.resting;
     }
 
 pub returns-clause-told : goal.returns-clause-told
@@ -55,3 +58,11 @@ pub returns-clause-checked : goal.returns-clause-checked
 returns-clause-checked g c = let x : Whole = c.args.pass.now.seat.me.0 in let v : View = x.view in let z : Size = size_of c.args.board.now.table.shared.key in let p : Place = at_cell c.args.node Version in let inside : Inside z p = c.requires.inside in let held : List Visit = c.args.pass.now.visits.items in
     let y : Whole = c.load.new.seat.me.0 in
     let told = told_at v z c.cell_word-word.result (ChecksVisit x c.load.result c.load.new.seat.me.0) p c.requires.pass.1 c.load.ensures.2.2 inside c.cell_word-word.ensures in checked_with held x.path c.args.node c.load.result y.path y.knows c.requires.next told.1
+
+pub returns-clause-pass : goal.returns-clause-pass
+returns-clause-pass g c = let x : Whole = c.args.pass.now.seat.me.0 in let v : View = x.view in let z : Size = size_of c.args.board.now.table.shared.key in let p : Place = at_cell c.args.node Version in let inside : Inside z p = c.requires.inside in let held : List Visit = c.args.pass.now.visits.items in
+    let t = c.load.ensures.2 in let y : Whole = c.load.new.seat.me.0 in
+    let told = told_at v z c.cell_word-word.result (ChecksVisit x c.load.result c.load.new.seat.me.0) p c.requires.pass.1 c.load.ensures.2.2 inside c.cell_word-word.ensures in
+    let same = told.0.later.same in let own = told.0.seen.learns.own in
+    let stays = check_stays x.path c.args.node c.load.result y.path y.knows (may_check_with held x.path c.args.node c.requires.next) told.1 in
+    (search rules, refl, (told.0.seen.learns.slots, refl))

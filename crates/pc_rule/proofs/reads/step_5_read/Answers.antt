@@ -1,5 +1,5 @@
 -- The step's lemma, at the address of the word.
-use Rattle.std.proofs.Common.{ap, ◌∙◌, vec_capacity}
+use Rattle.std.proofs.Common.{ap, ◌∙◌, vec_capacity, rules, refl}
 use Rattle.pc_words.specs.declared.word.WordKind.{WordKind}
 use Rattle.pc_words.specs.Words.{kind}
 use Rattle.pc_rule_law.specs.Board.{Size, Place, at_cell, Inside}
@@ -12,6 +12,7 @@ use Rattle.pc_exchange_law.specs.Wholes.{Whole}
 use Rattle.pc_exchange_law.proofs.WholePaths.{whole_read}
 use Rattle.pc_rule.specs.Walking.{path_with}
 use Rattle.pc_rule.proofs.Attempts.{agree_still}
+use Rattle.pc_rule.proofs.HeldSlots.{slots_still}
 use Rattle.pc_rule.proofs.Listing.{still_listed, still_ample}
 use Rattle.pc_rule.proofs.OwnWords.{begin_still, words_still}
 use Rattle.pc_rule.proofs.Telling.{told_at}
@@ -47,6 +48,8 @@ invariant_of-pass g c = let x : Whole = c.args.pass.now.seat.me.0 in let v : Vie
       ample = still_ample v y.view (vec_capacity c.args.pass.now.listed) t.1 c.args.pass.now.ample;
       listing = still_listed v y.view c.args.pass.now.listed.items t.1 c.args.pass.now.listing;
       walking = path_moved x y _ _ _ (ap (λ (q : Path). q.begun) told.1 ∙ kept.0) (ap (λ (q : Path). q.visits) told.1 ∙ kept.1) t.1.4 c.args.pass.now.walking;
+      holding = slots_still x y _ (told.0.seen.learns.slots) t.1.4 c.args.pass.now.holding;
+      resting = c.args.pass.now.resting;
     }
 
 pub returns-clause-told : goal.returns-clause-told
@@ -57,3 +60,11 @@ pub returns-clause-path : goal.returns-clause-path
 returns-clause-path g c = let x : Whole = c.args.pass.now.seat.me.0 in let v : View = x.view in let z : Size = size_of c.args.board.now.table.shared.key in let p : Place = at_cell c.args.node c.args.field in let inside : Inside z p = c.requires.inside in
     let told = told_at v z c.cell_word-word.result (SeesRead x c.load.result c.load.new.seat.me.0) p c.requires.pass.1 c.load.ensures.2.2 inside c.cell_word-word.ensures in
     ap (path_with c.args.pass.now.visits.items) told.1 ∙ read_with c.args.pass.now.visits.items x.path c.args.node c.args.field (kind c.load.result)
+
+pub returns-clause-pass : goal.returns-clause-pass
+returns-clause-pass g c = let x : Whole = c.args.pass.now.seat.me.0 in let v : View = x.view in let z : Size = size_of c.args.board.now.table.shared.key in let p : Place = at_cell c.args.node c.args.field in let inside : Inside z p = c.requires.inside in
+    let t = c.load.ensures.2 in let y : Whole = c.load.new.seat.me.0 in
+    let told = told_at v z c.cell_word-word.result (SeesRead x c.load.result c.load.new.seat.me.0) p c.requires.pass.1 c.load.ensures.2.2 inside c.cell_word-word.ensures in
+    let same = told.0.later.same in let own = told.0.seen.learns.own in
+    let k : WordKind = kind c.load.result in let kept = read_same x.path c.args.node c.args.field k in
+    (search rules, refl, (told.0.seen.learns.slots, refl))

@@ -9,6 +9,7 @@ use Rattle.pc_exchange_law.specs.WholePlays.{StoredInstall}
 use Rattle.pc_exchange_law.specs.Wholes.{Whole}
 use Rattle.pc_exchange_law.proofs.WholeStores.{whole_store_install}
 use Rattle.pc_rule.proofs.Attempts.{agree_still}
+use Rattle.pc_rule.proofs.HeldSlots.{slots_still}
 use Rattle.pc_rule.proofs.Listing.{still_listed, still_ample}
 use Rattle.pc_rule.proofs.OwnWords.{begin_still, words_still}
 use Rattle.pc_rule.proofs.Telling.{told_at}
@@ -42,6 +43,8 @@ invariant_of-pass g c = let x : Whole = c.args.pass.now.seat.me.0 in let v : Vie
       ample = still_ample v y.view (vec_capacity c.args.pass.now.listed) t.1 c.args.pass.now.ample;
       listing = still_listed v y.view c.args.pass.now.listed.items t.1 c.args.pass.now.listing;
       walking = path_still x y _ _ _ (ap (λ (u : Whole). u.path) told) t.1.4 c.args.pass.now.walking;
+      holding = slots_still x y _ (ap (λ (u : Whole). u.knows.slots) told) t.1.4 c.args.pass.now.holding;
+      resting = c.args.pass.now.resting;
     }
 
 pub returns-clause-told : goal.returns-clause-told
@@ -56,4 +59,4 @@ pub returns-clause-pass : goal.returns-clause-pass
 returns-clause-pass g c = let x : Whole = c.args.pass.now.seat.me.0 in let v : View = x.view in let z : Size = size_of c.args.board.now.table.shared.key in let p : Place = at_own v.seat (own_install c.args.place) in let inside : Inside z p = (c.requires.pass.2, c.requires.place) in
     let t = c.store.ensures.2 in let y : Whole = c.store.new.seat.me.0 in
     let told = told_at v z c.word_of-word.result (StoredInstall x c.args.new c.store.new.seat.me.0) p c.requires.pass.1 c.store.ensures.2.2 inside c.word_of-word.ensures refl in
-    (search rules, refl, (ap (λ (u : Whole). u.path) told, refl))
+    (search rules, refl, (ap (λ (u : Whole). u.path) told, refl), (ap (λ (u : Whole). u.knows.slots) told, refl))

@@ -7,9 +7,10 @@ use Rattle.pc_rule_law.proofs.Places.{within}
 use Rattle.pc_exchange_law.specs.WholePlays.{WholePlaced}
 use Rattle.pc_exchange_law.specs.Wholes.{Whole}
 use Rattle.pc_exchange_law.proofs.WholeWords.{whole_place}
-use Rattle.pc_rule.proofs.Attempts.{agree_still, swapped_own}
+use Rattle.pc_rule.proofs.Attempts.{agree_still, swapped_own, swapped_slots}
 use mathlib.Core.Logic.{dite}
 use native.Mathlib.Decide.{ℕ_discrete}
+use Rattle.pc_rule.proofs.HeldSlots.{slots_still}
 use Rattle.pc_rule.proofs.Listing.{still_listed, still_ample}
 use Rattle.pc_rule.proofs.OwnWords.{begin_still, words_still}
 use Rattle.pc_rule.proofs.Telling.{told_at}
@@ -45,6 +46,8 @@ invariant_of-pass g c = let x : Whole = c.args.pass.now.seat.me.0 in let v : Vie
       ample = still_ample v y.view (vec_capacity c.args.pass.now.listed) t.1 c.args.pass.now.ample;
       listing = still_listed v y.view c.args.pass.now.listed.items t.1 c.args.pass.now.listing;
       walking = path_still x y _ _ _ (told.1.path) t.1.4 c.args.pass.now.walking;
+      holding = slots_still x y _ (swapped_slots x c.args.node c.args.field c.args.old c.args.new c.compare_exchange.result y told.1) t.1.4 c.args.pass.now.holding;
+      resting = c.args.pass.now.resting;
     }
 
 pub returns-clause-told : goal.returns-clause-told
@@ -69,4 +72,4 @@ returns-clause-pass g c = let x : Whole = c.args.pass.now.seat.me.0 in let v : V
     let told = told_at v z c.cell_word-word.result (WholePlaced x c.args.old c.args.new c.compare_exchange.result c.compare_exchange.new.seat.me.0) p c.requires.pass.1 c.compare_exchange.ensures.2.2 inside c.cell_word-word.ensures in
     let same : y.view.install ≡ v.install = dite (ℕ_discrete c.compare_exchange.result c.args.old) (λ e. ap (λ (u : View). u.install) (told.0.hit e)) (λ ne. ap (λ (u : View). u.install) (told.0.miss ne)) in
     let mine : y.view.attempt ≡ v.attempt = dite (ℕ_discrete c.compare_exchange.result c.args.old) (λ e. ap (λ (u : View). u.attempt) (told.0.hit e)) (λ ne. ap (λ (u : View). u.attempt) (told.0.miss ne)) in
-    (search rules, refl, (told.1.path, refl))
+    (search rules, refl, (told.1.path, refl), (swapped_slots x c.args.node c.args.field c.args.old c.args.new c.compare_exchange.result y told.1, refl))

@@ -8,6 +8,7 @@ use Rattle.pc_exchange_law.specs.WholePlays.{SeesStatus}
 use Rattle.pc_exchange_law.specs.Wholes.{Whole}
 use Rattle.pc_exchange_law.proofs.WholeLooks.{whole_load_status}
 use Rattle.pc_rule.proofs.Attempts.{agree_still}
+use Rattle.pc_rule.proofs.HeldSlots.{slots_still}
 use Rattle.pc_rule.proofs.Listing.{still_listed, still_ample}
 use Rattle.pc_rule.proofs.OwnWords.{begin_still, words_still}
 use Rattle.pc_rule.proofs.Telling.{told_at}
@@ -41,6 +42,8 @@ invariant_of-pass g c = let x : Whole = c.args.pass.now.seat.me.0 in let v : Vie
       ample = still_ample v y.view (vec_capacity c.args.pass.now.listed) t.1 c.args.pass.now.ample;
       listing = still_listed v y.view c.args.pass.now.listed.items t.1 c.args.pass.now.listing;
       walking = path_still x y _ _ _ (told.5) t.1.4 c.args.pass.now.walking;
+      holding = slots_still x y _ (told.2.learns.slots) t.1.4 c.args.pass.now.holding;
+      resting = c.args.pass.now.resting;
     }
 
 pub returns-clause-word : goal.returns-clause-word
@@ -67,4 +70,4 @@ pub returns-clause-pass : goal.returns-clause-pass
 returns-clause-pass g c = let x : Whole = c.args.pass.now.seat.me.0 in let v : View = x.view in let z : Size = size_of c.args.board.now.table.shared.key in let p : Place = at_own (c.args.of - 1) own_status in let inside : Inside z p = ((let of = c.requires.of in omega arith), tt) in
     let t = c.load.ensures.2 in let y : Whole = c.load.new.seat.me.0 in
     let told = told_at v z c.own_word-word.result (SeesStatus x c.load.result c.load.new.seat.me.0) p c.requires.pass.1 c.load.ensures.2.2 inside c.own_word-word.ensures in
-    (search rules, refl, (told.5, refl))
+    (search rules, refl, (told.5, refl), (told.2.learns.slots, refl))

@@ -1,14 +1,16 @@
-use Rattle.std.proofs.Common.{rules, ◌≡◌, ℕ, ◌+◌, ◌<◌, ◌≤◌, List, [], length, vec_capacity, refl, sym, ap, ◌∙◌, subst, arith}
+use Rattle.std.proofs.Common.{rules, ◌≡◌, ℕ, ◌+◌, ◌<◌, ◌≤◌, List, [], length, vec_capacity, refl, sym, ap, ◌∙◌, subst, arith, map}
 use mathlib.Core.Option.{some, some-ne-none}
 use lib.ListN.{get_elem?, get_or}
 use Rattle.pc_rule_law.specs.declared.opening.Opening.{Opening}
-use Rattle.pc_rule_law.specs.Board.{Size, Represents}
+use Rattle.pc_rule_law.specs.Board.{Size, Represents, start_of}
 use Rattle.pc_rule_law.specs.Plays.{IsWell}
-use Rattle.pc_rule_law.specs.Tables.{size_of}
+use Rattle.pc_rule_law.specs.Tables.{size_of, slots_in}
 use Rattle.pc_exchange_law.specs.Wholes.{Whole}
 use Rattle.pc_exchange_law.specs.WholeSeats.{first_whole}
 use Rattle.pc_exchange_law.proofs.WholeOpenings.{whole_opening_holds}
 use Rattle.pc_rule_law.specs.declared.share.Share.{Share}
+use Rattle.pc_rule.specs.HeldSlots.{new_slots, HoldsSlots}
+use Rattle.pc_rule.proofs.HeldSlots.{begins_within, first_begins, next_begins, slots_new}
 use Rattle.pc_rule.proofs.Listing.{none_listed}
 use Rattle.pc_rule.proofs.Starting.{element}
 use Rattle.pc_rule.proofs.Walking.{new_holds}
@@ -72,3 +74,19 @@ pub invariant_of-pass-clause-placed : goal.invariant_of-pass-clause-placed
 invariant_of-pass-clause-placed g c = let made = c.in_ok-table.ensures in let z : Size = size_of c.args.opening.now in
     let is : c.in_ok-table.seat.me.0 ≡ first_whole z = ap (λ m. m.0) made.4 in
     begin_still _ _ _ _ (ap (λ (x : Whole). x.view.size) is) (begins z c.own_place.result 0 (c.own_place.ensures z refl))
+
+-- where shares begin
+pub invariant_of-board-clause-shared : goal.invariant_of-board-clause-shared
+invariant_of-board-clause-shared g c = let o = c.args.opening.now in λ j. subst (λ (k : Opening). start_of (size_of k) j ≤ o.slots + 2) (sym c.in_ok-table.ensures.5)
+    (begins_within (size_of o) c.args.shares.now (ap (map slots_in) c.requires.kept) c.requires.slots j)
+
+pub invariant_of-pass-clause-holding : goal.invariant_of-pass-clause-holding
+invariant_of-pass-clause-holding g c = let z : Size = size_of c.args.opening.now in let shares = c.args.shares.now in
+    let own : Share = get_or shares 0 (record { slots = 0; calls = 0 }) in
+    let is : c.in_ok-table.seat.me.0 ≡ first_whole z = ap (λ m. m.0) c.in_ok-table.ensures.4 in
+    let same : z.shares ≡ map slots_in shares = ap (map slots_in) c.requires.kept in
+    let at = element shares 0 (record { slots = 0; calls = 0 }) (let one = c.requires.shares.1 in omega arith) in
+    subst (HoldsSlots c.in_ok-table.seat.me.0) (sym c.new.ensures)
+    (subst (λ (x : Whole). HoldsSlots x (new_slots 2 own.slots)) (sym is)
+    (slots_new (first_whole z) 0 2 own.slots refl (first_begins z) (next_begins z shares same 0 own at ∙ ap (λ (n : ℕ). n + own.slots) (first_begins z))
+    (begins_within z shares same c.requires.slots 1)))

@@ -1,8 +1,11 @@
 use Rattle.std.proofs.Common.{rules, ◌≡◌, ℕ, ◌+◌, ◌<◌, ◌≤◌, [], length, vec_capacity, sym, ap, ◌∙◌, subst, arith}
+use Rattle.pc_rule_law.specs.Board.{Size}
+use Rattle.pc_exchange_law.specs.OwnSlots.{first_slots}
+use Rattle.pc_exchange_law.specs.Wholes.{Whole}
 use Rattle.pc_exchange_law.specs.WholeSeats.{whole_maker, whole_made}
 use Rattle.pc_rule_law.proofs.Lists.{each_snoc, below_length}
 use Rattle.pc_rule.specs.Opened.{last_whole, IsLastMade}
-use Rattle.pc_rule.specs.Passes.{whole, listed, IsBlank, IsPassOf}
+use Rattle.pc_rule.specs.Passes.{whole, board_size, listed, IsBlank, IsPassOf}
 use Rattle.pc_rule.specs.Recorded.{calls_of}
 use Rattle.pc_rule.proofs.Starting.{element}
 use Rattle.pc_rule.proofs.board.Board.open.Goals as goal
@@ -16,6 +19,11 @@ another-next-requires-clause-room g c = λ _ _. let n = c.requires.shares.0 in l
   c.in_ok-entries.ensures.none,
   c.in_ok-entries.ensures.own _ (element c.args.shares.now (c.loop-made.made + 1) (record { slots = 0; calls = 0 }) (omega arith)),
 )
+
+pub another-next-requires-clause-slots : goal.another-next-requires-clause-slots
+another-next-requires-clause-slots g c = λ _ _. let inv = c.loop-made.invariant in let last = c.loop-made.last in let b = c.in_ok-board.board in
+    ap (λ (x : Whole). x.knows.slots) inv.last.1 ∙ ap (λ (z : Size). first_slots z c.loop-made.made) (sym inv.sized)
+    ∙ ap (λ (i : ℕ). first_slots (board_size b) i) (sym (ap (λ (x : Whole). x.view.seat) inv.last.1))
 
 pub loop-made-preserved : goal.loop-made-preserved
 loop-made-preserved g c = let inv = c.loop-made.invariant in let o = c.args.opening.now in let b = c.in_ok-board.board in let a = c.another-next.ensures in let passes = c.loop-made.passes.items in let last = c.another-next.new.last in

@@ -5,8 +5,9 @@ use lib.ListN.{get_elem?}
 use Rattle.pc_rule_law.specs.Conditions.{IsFree}
 use Rattle.pc_rule_law.specs.Seats.{joined_by}
 use Rattle.pc_rule_law.specs.Views.{View}
-use Rattle.pc_rule.proofs.Noted.{told_taken}
-use Rattle.pc_rule.specs.Passes.{view, knows, share_of, recorded, IsPassOf}
+use Rattle.pc_exchange_law.specs.Wholes.{all_slots_at}
+use Rattle.pc_rule.proofs.Noted.{told_taken, slots_taken_in}
+use Rattle.pc_rule.specs.Passes.{whole, view, knows, share_of, recorded, IsPassOf}
 use Rattle.pc_rule.specs.Recorded.{calls_of, recorded_by}
 use Rattle.pc_rule.proofs.Ends.{each_front, each_last}
 use Rattle.pc_rule.proofs.Rooms.{one_taken, all_taken, fits_now, fits_then, taken_in}
@@ -18,6 +19,7 @@ loop-other-init g c = let r = c.requires in let last = c.args.last.now in let sh
   others = r.others.0;
   entries = IsPermutation-refl (recorded_by c.args.others.items ++ recorded last);
   told = refl;
+  slots = refl;
   room = (let n : length c.args.others.items + 1 ≡ length shares = r.others.1 in
       let at : get_elem? shares (length c.args.others.items) ≡ some (share_of last) = subst (λ (k : ℕ). get_elem? shares k ≡ some (share_of last)) r.last.1 r.last.0.4 in
       let taken = one_taken shares (length c.args.others.items) (share_of last) at in
@@ -54,6 +56,7 @@ loop-other-preserved g c = let inv = c.loop-other.invariant in let b = c.args.se
       others = each_front c.loop-other.others.items c.pop.new.self.items c.in-Some.other (λ i p. IsPassOf b p × ((view p).seat ≡ i) × IsFree (view p)) c.in-Some.ensures.items inv.others;
       entries = taken_in (recorded_by c.args.others.items ++ recorded c.args.last.now) c.loop-other.others.items c.pop.new.self.items c.in-Some.other (recorded c.loop-other.last) (recorded c.take_in.new.last) c.in-Some.ensures.items took.entries inv.entries;
       told = inv.told ∙ told_taken c.loop-other.others.items c.pop.new.self.items c.in-Some.other (knows c.loop-other.last).told (knows c.take_in.new.last).told c.in-Some.ensures.items took.told;
+      slots = inv.slots ∙ slots_taken_in c.loop-other.others.items c.pop.new.self.items c.in-Some.other (all_slots_at (whole c.loop-other.last)) (all_slots_at (whole c.take_in.new.last)) c.in-Some.ensures.items took.slots;
       room = (fits_then b.shares.items c.loop-other.others.items c.pop.new.self.items c.loop-other.last c.take_in.new.last c.in-Some.other (vec_capacity c.loop-other.last.records.entries) (vec_capacity c.take_in.new.last.records.entries) c.in-Some.ensures.items
           (subst (λ (k : ℕ). get_elem? b.shares.items k ≡ some (share_of c.in-Some.other)) is.1 is.0.4) is.0.5 inv.room took.entries took.capacity);
     }

@@ -1,9 +1,11 @@
-use Rattle.std.proofs.Common.{◌≡◌, ◌<◌, sym, ap, ◌∙◌, subst}
+use Rattle.std.proofs.Common.{◌≡◌, ◌<◌, [], ◌∷◌, sym, ap, ◌∙◌, subst}
 use Rattle.pc_rule_law.specs.Board.{Size, at_clock}
 use Rattle.pc_rule_law.specs.Plays.{IsWell}
 use Rattle.pc_rule_law.specs.Seats.{joined_by}
 use Rattle.pc_rule_law.specs.Views.{View}
-use Rattle.pc_rule.specs.Passes.{view, board_size}
+use Rattle.pc_rule.specs.Passes.{whole, view, board_size}
+use Rattle.pc_rule.proofs.Rooms.{in_parts}
+use Rattle.pc_exchange_law.specs.Wholes.{slots_at, all_slots_at}
 use Rattle.pc_rule_law.specs.Tables.{size_of}
 use Rattle.pc_rule_law.proofs.Places.{within}
 use Rattle.pc_exchange_law.proofs.WholeSeats.{whole_joins}
@@ -27,3 +29,7 @@ returns-clause-pass g c = let e = c.join_seat.ensures in let r = c.requires.pass
       (e.0 ∙ r.0, ap (λ (v : View). v.size) is ∙ r.1, subst (λ (v : View). v.seat < (board_size c.args.self.now).seats) (sym is) r.2, subst IsWell (sym is) r.3),
       is,
     )
+
+pub returns-clause-slots : goal.returns-clause-slots
+returns-clause-slots g c =
+    ap (λ m. all_slots_at m.0) c.join_seat.ensures.2 ∙ in_parts (all_slots_at (whole c.args.other)) (whole c.args.last.now).taken (slots_at (whole c.args.last.now) ∷ [])
