@@ -26,7 +26,7 @@ use Rattle.pc_exchange_law.specs.Ties.{code}
 use Rattle.pc_exchange_law.specs.WholePlays.{CellSeen, ReferenceTaken, after_clear}
 use Rattle.pc_exchange_law.specs.Wholes.{Whole}
 use Rattle.pc_rule.specs.Attempts.{AgreeOnAttempt}
-use Rattle.pc_rule.specs.Deciding.{MayPutNumber, MayClearOwn}
+use Rattle.pc_rule.specs.Deciding.{took_effect, MayPutNumber, MayClearOwn, KnowsOutcome as KnowsOwnOutcome}
 use Rattle.pc_rule.specs.declared.board.Pass.{Pass}
 use Rattle.pc_rule.specs.declared.opening.Place.{Place}
 use Rattle.pc_rule.specs.declared.refs.Ref.{Ref}
@@ -37,7 +37,7 @@ use Rattle.pc_rule.proofs.Calls.{read_at}
 use Rattle.pc_rule.proofs.Starting.{element}
 use Rattle.pc_dcss.specs.Installs.{HasMet}
 use Rattle.pc_dcss.proofs.Staying.{is_noted}
-use Rattle.pc_kcas.specs.Clearing.{took_effect, KnowsOutcomeOf, KnowsOutcome, KnowsEntryOf, IsCleanAt}
+use Rattle.pc_kcas.specs.Clearing.{KnowsOutcomeOf, KnowsOutcome, KnowsEntryOf, IsCleanAt}
 use Rattle.pc_kcas.specs.Exchanges.{HasPublished, IsUncleared}
 use Rattle.pc_kcas.specs.Settling.{HasLearnt, HoldsEach}
 use Rattle.pc_kcas.proofs.Attempts.{listed_as}
@@ -166,6 +166,14 @@ entry_learnt x y op place l entry = (
 
 pub outcome_learnt : (x y : Whole) (p a : ℕ) (won : Bool) → HasLearnt x y → KnowsOutcomeOf x p a won → KnowsOutcomeOf y p a won
 outcome_learnt x y p a won l known = (known.0, l.told (verdict (code p a) known.0) known.1, known.2)
+
+-- how the own attempt was decided, by the number that the pass knows beside
+pub own_outcome : (x : Whole) (won : Bool) → AgreeOnAttempt x → KnowsOutcome x won → KnowsOwnOutcome x won
+own_outcome x won agree known = (
+  known.0,
+  subst (λ (n : ℕ). Has x.knows.told (verdict (code x.view.seat n) known.0)) (sym agree.number) known.1,
+  known.2,
+)
 
 -- an attempt each of whose words is clean may be cleared
 pub may_clear : (x : Whole) (places : List Place) (won : Bool) (new : ℕ) → HasPublished x.view places → AgreeOnAttempt x → KnowsOutcome x won

@@ -27,7 +27,8 @@ use Rattle.pc_dcss.specs.Installs.{IsDecided}
 use Rattle.pc_dcss.proofs.Staying.{adds_then}
 use Rattle.pc_kcas.specs.declared.verdict.Verdict.{Verdict}
 use Rattle.pc_kcas.specs.declared.verdict.Verdict.TheVariants.{Won, Changed as ChangedSo, Locked as LockedSo, Blocked, Numbers}
-use Rattle.pc_kcas.specs.Clearing.{took_effect, says_success, KnowsOutcome, HasCleared}
+use Rattle.pc_rule.specs.Deciding.{took_effect}
+use Rattle.pc_kcas.specs.Clearing.{says_success, KnowsOutcome, HasCleared}
 use Rattle.pc_kcas.specs.Exchanges.{visit_count, CoversNode, HasPublished, KnowsOwn, attempt_with}
 use Rattle.pc_kcas.specs.Settling.{HasLearnt, HasLearntOrWithdrawn, OwnsPublished, StandsAt, IsSettled, TellsFailure}
 use Rattle.pc_kcas.specs.Verdicts.{KnowsFailed, KnowsRival, KnowsWhy, HasEnded, EndedSo, IsReason, answer_by}

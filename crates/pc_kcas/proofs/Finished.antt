@@ -16,7 +16,7 @@ use Rattle.pc_rule.specs.declared.board.Pass.{Pass}
 use Rattle.pc_rule.specs.declared.opening.Place.{Place}
 use Rattle.pc_rule.specs.declared.refs.Ref.{Ref}
 use Rattle.pc_rule.specs.declared.refs.RefKind.TheVariants.{Exchange}
-use Rattle.pc_rule.specs.Passes.{whole, view, listed, IsSeatedAs, IsSamePass}
+use Rattle.pc_rule.specs.Passes.{whole, view, listed, IsSeatedAs, IsSamePass, IsSameButSlots}
 use Rattle.pc_rule.proofs.Starting.{element}
 use Rattle.pc_dcss.specs.Installs.{KnowsPlace}
 use Rattle.pc_dcss.proofs.Staying.{adds_then, is_noted}
@@ -218,7 +218,7 @@ module _ {H : Type 0} {S : Ghosts H} where
   )
 
   -- each word that was listed is clean
-  pub clean_listed : (p q r : Pass H S) → IsSamePass p q → GoesOn (whole p) (whole q) → IsSamePass q r → HasEnded (whole q) (whole r)
+  pub clean_listed : (p q r : Pass H S) → IsSamePass p q → GoesOn (whole p) (whole q) → IsSameButSlots q r → HasEnded (whole q) (whole r)
       → ((i : ℕ) → i < length (listed r) → IsCleanAt r i) → (i : ℕ) (x : Place) → get_elem? (listed p) i ≡ some x
       → Has (view r).notes (clean (view p).seat (view p).attempt.number x.node x.field)
   clean_listed p q r one goes two e cleaned i x at =

@@ -10,6 +10,7 @@ pub mod Blocking
 pub mod Finished
 mod Words
 pub mod Locks
+pub mod LockedFits
 pub mod Learning
 pub mod Standing
 pub mod Failing

@@ -12,7 +12,7 @@ use Rattle.pc_rule_law.specs.Views.{View, OwnAttempt, word_in}
 use Rattle.pc_rule_law.proofs.Lists.{has_later}
 use Rattle.pc_rule_law.proofs.Places.{one_word}
 use Rattle.pc_protocol.specs.Histories.{committed}
-use Rattle.pc_protocol.specs.Notes.{Note, published, clock_was, drew, verdict, in_run}
+use Rattle.pc_protocol.specs.Notes.{Note, read_word, published, clock_was, drew, verdict, in_run}
 use Rattle.pc_exchange_law.specs.Attempts.{OwnAttempt as OwnTried, AttemptNote}
 use Rattle.pc_exchange_law.specs.Knowing.{Learns, IsAboveSeen}
 use Rattle.pc_exchange_law.specs.Passes.{PassKnows}
@@ -92,6 +92,7 @@ above_fewer told more c keeps above = record {
   stamps = λ t seen. above.stamps t (⊎_elim (λ drawn. inl (drawn.0, keeps (drew drawn.0 t) drawn.1))
       (⊎_elim (λ won. inr (inl (won.0, keeps (verdict won.0 (committed t)) won.1)))
       (λ read. inr (inr (read.0, keeps (in_run t read.0) read.1)))) seen);
+  reads = λ n v x b f has. above.reads n v x b f (keeps (read_word n v f x b) has);
 }
 
 -- a publication leaves what was known

@@ -7,25 +7,19 @@ use Rattle.pc_words.specs.declared.status.Stage.{Stage as StatusStage}
 use Rattle.pc_words.specs.declared.status.Stage.TheVariants.{Idle, Undecided, Succeeded, Withdrawn, Changed, Locked}
 use Rattle.pc_rule_law.specs.Past.{Has}
 use Rattle.pc_rule_law.specs.Views.{clean, held}
-use Rattle.pc_protocol.specs.Histories.{Stage, absent, undecided, committed, aborted}
+use Rattle.pc_protocol.specs.Histories.{Stage}
 use Rattle.pc_protocol.specs.Notes.{verdict}
 use Rattle.pc_exchange_law.specs.Attempts.{KnowsEntry}
 use Rattle.pc_exchange_law.specs.Knowing.{after_clearing}
 use Rattle.pc_exchange_law.specs.Ties.{code}
 use Rattle.pc_exchange_law.specs.WholePlays.{after_clear}
 use Rattle.pc_exchange_law.specs.Wholes.{Whole}
+use Rattle.pc_rule.specs.Deciding.{took_effect}
 use Rattle.pc_rule.specs.declared.board.Pass.{Pass}
 use Rattle.pc_rule.specs.declared.opening.Place.{Place}
 use Rattle.pc_rule.specs.declared.refs.Ref.{Ref}
 use Rattle.pc_rule.specs.Passes.{view, listed}
 use Rattle.pc_kcas.specs.Settling.{HasLearntOrWithdrawn}
-
--- whether an exchange that came so far took effect
-abbrev pub took_effect : Stage → Bool
-took_effect absent = false
-took_effect undecided = false
-took_effect (committed s) = true
-took_effect (aborted cause) = false
 
 -- whether the attempt of a status with this stage took effect
 abbrev pub says_success : StatusStage → Bool

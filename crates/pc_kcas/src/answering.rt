@@ -1,7 +1,7 @@
 //! The answer of an exchange to its own pass, by what stopped its words.
 ghost use Rattle.std.specs.Prelude.{◌≡◌, ◌≢◌, ◌⊎◌, ◌<◌, ℕ, length, IfSome, IfNone};
 ghost use Rattle.pc_rule_law.specs.Conditions.{IsFree};
-ghost use Rattle.pc_rule.specs.Passes.{whole, view, listed, IsPassOf, IsSamePass};
+ghost use Rattle.pc_rule.specs.Passes.{whole, view, listed, IsPassOf, IsSameButSlots};
 ghost use Rattle.pc_kcas.specs.declared.obstacle.Obstacle.TheVariants.{Stuck as IsStuckThere, Beyond};
 ghost use Rattle.pc_kcas.specs.Clearing.{HoldsListed, IsCleanAt};
 ghost use Rattle.pc_kcas.specs.Exchanges.{IsPublished, own_exchange};
@@ -67,7 +67,7 @@ fn end_stopped<H: Shape>(board: &Board<H>, pass: &mut Pass<H>, stop: Stop) -> Ve
     requires published { IsPublished pass.old }
     requires index { stop.at < length (listed pass.old) }
     requires why { KnowsStopAt pass.old stop }
-    ensures pass { IsSamePass pass.old pass.new }
+    ensures pass { IsSameButSlots pass.old pass.new }
     ensures ended { HasEnded (whole pass.old) (whole pass.new) }
     ensures clean { (i : ℕ) → i < length (listed pass.new) → IsCleanAt pass.new i }
     ensures so { EndedSo (whole pass.new) (view pass.new).attempt.number result (AreInTheWay stop.obstacle) }
@@ -97,7 +97,7 @@ pub(crate) fn end_at<H: Shape>(
     requires held { IfNone stopped (HoldsListed pass.old) }
     requires index { IfSome stopped (λ stop. stop.at < length (listed pass.old)) }
     requires why { IfSome stopped (KnowsStopAt pass.old) }
-    ensures pass { IsSamePass pass.old pass.new }
+    ensures pass { IsSameButSlots pass.old pass.new }
     ensures ended { HasEnded (whole pass.old) (whole pass.new) }
     ensures clean { (i : ℕ) → i < length (listed pass.new) → IsCleanAt pass.new i }
     ensures so { EndedSo (whole pass.new) (view pass.new).attempt.number result (WereBlockedBy stopped (whole pass.old) (whole pass.new) (own_exchange pass.old)) }

@@ -1,18 +1,21 @@
 //! An exchange that is decided is cleared: each of its words gets a number in place of the reference, the new one where the exchange
 //! took effect and else the old one. No word can get the reference again: an install that may put it there is completed. Any pass
 //! may clear words; the exchange's own pass then makes its status idle.
-ghost use Rattle.std.specs.Prelude.{◌≡◌, ◌≢◌, ◌<◌, ◌≤◌, ℕ, true, false, length, if◌then◌else◌};
+ghost use Rattle.std.specs.Prelude.{◌≡◌, ◌≢◌, ◌<◌, ◌≤◌, ℕ, true, false, None, length, if◌then◌else◌};
 ghost use Rattle.pc_model.specs.Exchanges.{Exchange};
 ghost use Rattle.pc_words.specs.Words.{kind, IsWord};
 ghost use Rattle.pc_words.specs.declared.word.WordKind.TheVariants.{Install};
 ghost use Rattle.pc_rule_law.specs.Past.{Has};
 ghost use Rattle.pc_rule_law.specs.Views.{clean, removed, IsAttempt};
-ghost use Rattle.pc_protocol.specs.Histories.{aborted, ended};
+ghost use Rattle.pc_protocol.specs.Histories.{Stage as StageOf, aborted, ended};
 ghost use Rattle.pc_protocol.specs.Notes.{clock_was, outdated, published, verdict};
 ghost use Rattle.pc_protocol.specs.Seeing.{Covers};
-ghost use Rattle.pc_exchange_law.specs.Ties.{last_stamp};
+ghost use Rattle.pc_exchange_law.specs.Knowing.{after_clearing};
+ghost use Rattle.pc_exchange_law.specs.Ties.{code, last_stamp};
+ghost use Rattle.pc_exchange_law.specs.WholePlays.{after_clear};
 ghost use Rattle.pc_rule.specs.Listed.{FitsWord};
-ghost use Rattle.pc_rule.specs.Passes.{whole, view, knows, listed, board_size, IsPassOf, IsSamePass};
+ghost use Rattle.pc_rule.specs.Deciding.{MayClearOwn, KnowsOutcome as KnowsOwnOutcome};
+ghost use Rattle.pc_rule.specs.Passes.{whole, view, knows, listed, fresh, board_size, IsPassOf, IsSamePass, IsSameButSlots};
 ghost use Rattle.pc_dcss.specs.Installs.{HasMet};
 ghost use Rattle.pc_kcas.specs.Exchanges.{IsUncleared};
 ghost use Rattle.pc_kcas.specs.Clearing.{KnowsOutcomeOf, KnowsOutcome, KnowsEntryOf, IsCleanAt, HasCleared};
@@ -120,6 +123,19 @@ pub(crate) fn clear_listed<H: Shape>(board: &Board<H>, pass: &mut Pass<H>, won: 
     }
 }
 
+// Makes the status of the pass's exchange idle, which it knows to be decided so.
+fn make_idle<H: Shape>(board: &Board<H>, pass: &mut Pass<H>, idle: u64, won: bool)
+    requires pass { IsPassOf board.now pass.old }
+    requires may { MayClearOwn (whole pass.old) idle }
+    requires outcome { KnowsOwnOutcome (whole pass.old) won }
+    ensures pass { IsSameButSlots pass.old pass.new }
+    ensures makes { fresh pass.new ≡ None }
+    ensures told { (st : StageOf) → Has (knows pass.old).told (verdict (code (view pass.old).seat (knows pass.old).own.number) st) → whole pass.new ≡ record (whole pass.old) { view = after_clear (view pass.old); knows = after_clearing (knows pass.old) st } }
+{
+    pass.tell_won(won);
+    step_16(board, pass, idle);
+}
+
 /// Clears the pass's published exchange, whose outcome it knows. Afterwards the pass may publish another. The answer is the clock
 /// once all words were clean.
 /// - `won`: whether it took effect.
@@ -127,7 +143,8 @@ pub(crate) fn clear<H: Shape>(board: &Board<H>, pass: &mut Pass<H>, won: bool) -
     requires pass { IsPassOf board.now pass.old }
     requires published { IsUncleared pass.old }
     requires decided { KnowsOutcome (whole pass.old) won }
-    ensures pass { IsSamePass pass.old pass.new }
+    ensures pass { IsSameButSlots pass.old pass.new }
+    ensures makes { fresh pass.new ≡ None }
     ensures cleared { HasCleared (whole pass.old) (whole pass.new) }
     ensures clean { (i : ℕ) → i < length (listed pass.new) → IsCleanAt pass.new i }
     ensures clock { Has (knows pass.new).told (clock_was result) }
@@ -140,6 +157,6 @@ pub(crate) fn clear<H: Shape>(board: &Board<H>, pass: &mut Pass<H>, won: bool) -
         number: pass.attempts(),
         stage: Stage::Idle,
     });
-    step_16(board, pass, idle);
+    make_idle(board, pass, idle, won);
     clock
 }

@@ -4,7 +4,7 @@ ghost use Rattle.pc_exchange_law.specs.Ties.{code};
 ghost use Rattle.pc_protocol.specs.Notes.{outdated};
 ghost use Rattle.pc_rule_law.specs.Conditions.{IsFree};
 ghost use Rattle.pc_rule_law.specs.Past.{Has};
-ghost use Rattle.pc_rule.specs.Passes.{whole, view, knows, listed, IsPassOf, IsSamePass};
+ghost use Rattle.pc_rule.specs.Passes.{whole, view, knows, listed, IsPassOf, IsSameButSlots};
 ghost use Rattle.pc_words.specs.declared.status.Stage.TheVariants.{Withdrawn, Changed as ChangedNode};
 ghost use Rattle.pc_words.specs.Statuses.{StageInRange};
 ghost use Rattle.pc_dcss.specs.Installs.{IsDecided};
@@ -68,7 +68,7 @@ fn conclude<H: Shape>(board: &Board<H>, pass: &mut Pass<H>, status: Status) -> V
     requires published { IsUncleared pass.old }
     requires range { StageInRange status.stage }
     requires why { KnowsWhy (whole pass.old) status }
-    ensures pass { IsSamePass pass.old pass.new }
+    ensures pass { IsSameButSlots pass.old pass.new }
     ensures ended { HasEnded (whole pass.old) (whole pass.new) }
     ensures clean { (i : ℕ) → i < length (listed pass.new) → IsCleanAt pass.new i }
     ensures so { EndedSo (whole pass.new) (view pass.new).attempt.number result (λ first second. ⊥) }
@@ -84,7 +84,7 @@ pub(crate) fn end_held<H: Shape>(board: &Board<H>, pass: &mut Pass<H>) -> Verdic
     requires free { IsFree (view pass.old) }
     requires published { IsPublished pass.old }
     requires held { HoldsListed pass.old }
-    ensures pass { IsSamePass pass.old pass.new }
+    ensures pass { IsSameButSlots pass.old pass.new }
     ensures ended { HasEnded (whole pass.old) (whole pass.new) }
     ensures clean { (i : ℕ) → i < length (listed pass.new) → IsCleanAt pass.new i }
     ensures so { EndedSo (whole pass.new) (view pass.new).attempt.number result (HasMetVisited (whole pass.old) (whole pass.new) (own_exchange pass.old)) }
@@ -103,7 +103,7 @@ pub(crate) fn end_changed<H: Shape>(board: &Board<H>, pass: &mut Pass<H>, node: 
     requires published { IsPublished pass.old }
     requires range { StageInRange (ChangedNode node) }
     requires outdated { Has (knows pass.old).told (outdated (code (view pass.old).seat (view pass.old).attempt.number) node) }
-    ensures pass { IsSamePass pass.old pass.new }
+    ensures pass { IsSameButSlots pass.old pass.new }
     ensures ended { HasEnded (whole pass.old) (whole pass.new) }
     ensures clean { (i : ℕ) → i < length (listed pass.new) → IsCleanAt pass.new i }
     ensures so { EndedSo (whole pass.new) (view pass.new).attempt.number result (λ first second. ⊥) }
@@ -118,7 +118,7 @@ pub(crate) fn end_decided<H: Shape>(board: &Board<H>, pass: &mut Pass<H>) -> Ver
     requires pass { IsPassOf board.now pass.old }
     requires published { IsPublished pass.old }
     requires decided { IsDecided (view pass.old) (view pass.old).seat (view pass.old).attempt.number }
-    ensures pass { IsSamePass pass.old pass.new }
+    ensures pass { IsSameButSlots pass.old pass.new }
     ensures ended { HasEnded (whole pass.old) (whole pass.new) }
     ensures clean { (i : ℕ) → i < length (listed pass.new) → IsCleanAt pass.new i }
     ensures so { EndedSo (whole pass.new) (view pass.new).attempt.number result (λ first second. ⊥) }
@@ -137,7 +137,7 @@ pub(crate) fn end_withdrawn<H: Shape>(
     requires pass { IsPassOf board.now pass.old }
     requires published { IsPublished pass.old }
     requires reason { IsReason (whole pass.old) reason }
-    ensures pass { IsSamePass pass.old pass.new }
+    ensures pass { IsSameButSlots pass.old pass.new }
     ensures ended { HasEnded (whole pass.old) (whole pass.new) }
     ensures clean { (i : ℕ) → i < length (listed pass.new) → IsCleanAt pass.new i }
     ensures so { EndedSo (whole pass.new) (view pass.new).attempt.number result (λ first second. reason ≡ Blocked first second) }

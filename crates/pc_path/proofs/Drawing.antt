@@ -6,7 +6,7 @@ use Rattle.pc_rule_law.specs.Past.{Has}
 use Rattle.pc_rule_law.specs.Plays.{ClockLoaded}
 use Rattle.pc_rule_law.proofs.Lists.{has_later}
 use Rattle.pc_protocol.specs.Histories.{committed}
-use Rattle.pc_protocol.specs.Notes.{clock_was, drew, verdict, in_run}
+use Rattle.pc_protocol.specs.Notes.{clock_was, read_word, drew, verdict, in_run}
 use Rattle.pc_exchange_law.specs.Knowing.{IsAboveSeen}
 use Rattle.pc_exchange_law.specs.Ties.{last_stamp}
 use Rattle.pc_exchange_law.specs.Wholes.{Whole}
@@ -53,4 +53,5 @@ above_before x y s goes above = record {
   stamps = λ t seen. above.stamps t (⊎_elim (λ drawn. inl (drawn.0, goes.told (drew drawn.0 t) drawn.1))
       (⊎_elim (λ won. inr (inl (won.0, goes.told (verdict won.0 (committed t)) won.1)))
       (λ read. inr (inr (read.0, goes.told (in_run t read.0) read.1)))) seen);
+  reads = λ n v x b f has. above.reads n v x b f (goes.told (read_word n v f x b) has);
 }

@@ -1,5 +1,7 @@
 pub mod Answered
 pub mod Checked
+pub mod Closings
+pub mod Counted
 pub mod Drawing
 pub mod Endings
 pub mod Exchanged
@@ -13,3 +15,4 @@ pub mod Paths
 pub mod Places
 pub mod Seeing
 pub mod Sitting
+pub mod Tried

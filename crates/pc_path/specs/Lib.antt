@@ -1,8 +1,11 @@
 pub mod Adds
+pub mod Bounds
 pub mod Checks
+pub mod Closings
 pub mod Endings
 pub mod Exchanges
 pub mod Faults
 pub mod Finds
 pub mod Losses
+pub mod Tries
 pub mod Ways

@@ -10,6 +10,7 @@ ghost use Rattle.pc_exchange_law.specs.Paths.{Path, with_stamp, MayCheck};
 ghost use Rattle.pc_exchange_law.specs.Ties.{last_stamp};
 ghost use Rattle.pc_rule.specs.declared.visit.Visit.{Visit as VisitOf};
 ghost use Rattle.pc_rule.specs.Passes.{whole, view, knows, visits, path, board_size, IsPassOf, StaysSeated, HasNode};
+ghost use Rattle.pc_kcas.specs.Bounds.{most_in_help};
 ghost use Rattle.pc_kcas.specs.Obstacles.{GoesOn};
 ghost use Rattle.pc_kcas.specs.Takings.{IsAtLastInstall};
 ghost use Rattle.pc_kcas.specs.Verdicts.{IsAtLast};
@@ -42,6 +43,7 @@ pub(crate) fn draw_stamp<H: Shape>(board: &Board<H>, pass: &mut Pass<H>) -> Resu
     ensures early { IfOk result (λ s. s < last_stamp) }
     ensures above { IfOk result (IsAboveSeen (knows pass.old).told) }
     ensures numbers { IfErr result (IsAtLast (whole pass.new)) }
+    ensures no_install { (view pass.new).install.number ≡ (view pass.old).install.number }
 {
     let clock = step_9(board, pass);
     if clock >= LAST_STAMP {
@@ -76,6 +78,7 @@ fn find_checked<H: Shape>(board: &Board<H>, pass: &mut Pass<H>, node: u32) -> Re
     ensures after { IfOk result (IsAfterVisits (visits pass.old) node) }
     ensures busy { IfErr result (λ e. IfBusy e (IsBusy (board_size board.now).seats (view pass.old) (whole pass.new) node Version)) }
     ensures numbers { IfErr result (λ e. IfOutOfNumbers e (IsAtLastInstall (view pass.new))) }
+    ensures bounded { (view pass.new).install.number ≤ (view pass.old).install.number + most_in_help (board_size board.now) }
 {
     let mut met = Met {
         completed: None,
@@ -133,6 +136,7 @@ pub(crate) fn check_visit<H: Shape>(
     ensures locked { IfErr result (λ e. IfLocked e (λ n by. ⊥)) }
     ensures blocked { IfErr result (λ e. IfBlocked e (IsBlockedAt (board_size board.now).seats (view pass.old) (whole pass.new) (visits pass.old))) }
     ensures numbers { IfErr result (λ e. IfNumbers e (IsAtLastInstall (view pass.new))) }
+    ensures bounded { (view pass.new).install.number ≤ (view pass.old).install.number + most_in_help (board_size board.now) }
 {
     let visit = pass.visits()[at];
     match find_checked(board, pass, visit.node) {

@@ -1,5 +1,5 @@
 //! The exchange of an operation.
-ghost use Rattle.std.specs.Prelude.{◌≡◌, ◌<◌, ◌≤◌, ◌++◌, List, [], true, None, length, IfOk, IfErr, OnOk, OnErr, IsErr};
+ghost use Rattle.std.specs.Prelude.{◌≡◌, ◌+◌, ◌<◌, ◌≤◌, ◌++◌, List, [], true, None, length, IfOk, IfErr, OnOk, OnErr, IsErr};
 ghost use Rattle.std.specs.List.Sorted.{IsPermutation};
 ghost use Rattle.pc_model.specs.Exchanges.{Exchange};
 ghost use Rattle.pc_rule_law.specs.Conditions.{CanWrite, IsFree};
@@ -7,11 +7,13 @@ ghost use Rattle.pc_protocol.specs.Notes.{Note};
 ghost use Rattle.pc_exchange_law.specs.Paths.{dropped};
 ghost use Rattle.pc_rule.specs.Passes.{whole, view, knows, visits, path, listed, recorded, carried, taken_down, board_size, IsPassOf, IsSeatedAs, SitsAs, KeepsPath};
 ghost use Rattle.pc_kcas.specs.declared.mode.Mode.TheVariants.{Words, Path as OfPath};
+ghost use Rattle.pc_kcas.specs.Bounds.{most_in_end};
 ghost use Rattle.pc_kcas.specs.Exchanges.{RaisesVersions, FitsByMode, KnowsOldValues, KnowsAbove, IsPublished, exchange_by, visit_count, visits_by, last_attempt};
 ghost use Rattle.pc_kcas.specs.Locks.{words_by, WhereLocked, CanLock};
 ghost use Rattle.pc_kcas.specs.Verdicts.{KeepsAll, IsAtLast};
 ghost use Rattle.pc_path.specs.Exchanges.{HasTakenPlace, HasExchanged, HasFailed, HasNoEffect, HasRival, IsPast, IsAtLastAttempt, IsOutOfNumbers, WasInTheWay};
 ghost use Rattle.pc_path.specs.Losses.{IfChanged, IfLocked, IfBlocked, IfNumbers};
+ghost use Rattle.pc_path.specs.Tries.{HasTried, IfTried};
 
 use crate::concluding::conclude;
 use crate::finishing::ended;
@@ -35,6 +37,8 @@ fn begun<H: Shape>(board: &Board<H>, pass: &mut Pass<H>, mode: Mode) -> Result<(
     ensures free { IsFree (view pass.new) }
     ensures kept { KeepsAll (whole pass.old) (whole pass.new) }
     ensures recorded { recorded pass.new ≡ recorded pass.old }
+    ensures attempts { (view pass.new).attempt.number ≤ (view pass.old).attempt.number + 1 }
+    ensures no_install { (view pass.new).install.number ≡ (view pass.old).install.number }
 
     // What is published.
     ensures published { OnOk result (IsPublished pass.new) }
@@ -42,6 +46,7 @@ fn begun<H: Shape>(board: &Board<H>, pass: &mut Pass<H>, mode: Mode) -> Result<(
     ensures each { OnOk result (IsPermutation (words_by mode (path pass.old) (listed pass.old)) (listed pass.new)) }
     ensures counted { OnOk result (visit_count (view pass.new) ≡ length (visits_by mode (path pass.old))) }
     ensures same { OnOk result (IsSeatedAs pass.old pass.new × KeepsPath pass.old pass.new) }
+    ensures once { OnOk result ((view pass.new).attempt.number ≡ (view pass.old).attempt.number + 1) }
 
     // Why it isn't.
     ensures refused { IfErr result (IsAtLastAttempt (view pass.old)) }
@@ -87,11 +92,14 @@ pub(crate) fn exchanged<H: Shape>(
     ensures carried { carried pass.new ≡ None }
     ensures done { IfOk result (HasExchanged (knows pass.old).told (whole pass.new) mode (path pass.old) (listed pass.old)) }
     ensures lost { OnErr result (HasNoEffect (view pass.old) (whole pass.new)) }
+    ensures tried { IfErr result (λ e. IfTried e (HasTried mode (path pass.old) (listed pass.old) (view pass.old) (whole pass.new))) }
     ensures changed { IfErr result (λ e. IfChanged e (IsPast (visits pass.old) (words_by mode (path pass.old) (listed pass.old)) (whole pass.new))) }
     ensures locked { IfErr result (λ e. IfLocked e (HasRival (whole pass.new))) }
     ensures walked { IfErr result (λ e. IfLocked e (λ n by. 0 < length (visits_by mode (path pass.old)))) }
     ensures blocked { IfErr result (λ e. IfBlocked e (WasInTheWay (board_size board.now).seats (view pass.old) (whole pass.new))) }
     ensures numbers { IfErr result (λ e. IfNumbers e (IsOutOfNumbers (view pass.old) (whole pass.new))) }
+    ensures attempts { (view pass.new).attempt.number ≤ (view pass.old).attempt.number + 1 }
+    ensures bounded { (view pass.new).install.number ≤ (view pass.old).install.number + most_in_end (board_size board.now) (length (words_by mode (path pass.old) (listed pass.old))) }
 {
     match begun(board, pass, mode) {
         Ok(()) => ended(board, pass),
@@ -133,10 +141,15 @@ pub fn exec<H: Shape>(board: &Board<H>, pass: &mut Pass<H>) -> Result<u64, Lost>
 
     // Why it was lost.
     ensures lost { OnErr result (HasNoEffect (view pass.old) (whole pass.new)) }
+    ensures tried { IfErr result (λ e. IfTried e (HasTried Words (path pass.old) (listed pass.old) (view pass.old) (whole pass.new))) }
     ensures changed { IfErr result (λ e. IfChanged e (IsPast (visits pass.old) (listed pass.old) (whole pass.new))) }
     ensures never_locked { IfErr result (λ e. IfLocked e (λ n by. ⊥)) }
     ensures blocked { IfErr result (λ e. IfBlocked e (WasInTheWay (board_size board.now).seats (view pass.old) (whole pass.new))) }
     ensures numbers { IfErr result (λ e. IfNumbers e (IsOutOfNumbers (view pass.old) (whole pass.new))) }
+
+    // The most attempts and installs that it makes.
+    ensures attempts { (view pass.new).attempt.number ≤ (view pass.old).attempt.number + 1 }
+    ensures bounded { (view pass.new).install.number ≤ (view pass.old).install.number + most_in_end (board_size board.now) (length (listed pass.old)) }
 {
     exchanged(board, pass, Mode::Words)
 }
@@ -176,10 +189,15 @@ pub fn vexec<H: Shape>(board: &Board<H>, pass: &mut Pass<H>) -> Result<u64, Lost
 
     // Why it was lost.
     ensures lost { OnErr result (HasNoEffect (view pass.old) (whole pass.new)) }
+    ensures tried { IfErr result (λ e. IfTried e (HasTried OfPath (path pass.old) (listed pass.old) (view pass.old) (whole pass.new))) }
     ensures changed { IfErr result (λ e. IfChanged e (IsPast (visits pass.old) (listed pass.old) (whole pass.new))) }
     ensures locked { IfErr result (λ e. IfLocked e (HasRival (whole pass.new))) }
     ensures blocked { IfErr result (λ e. IfBlocked e (WasInTheWay (board_size board.now).seats (view pass.old) (whole pass.new))) }
     ensures numbers { IfErr result (λ e. IfNumbers e (IsOutOfNumbers (view pass.old) (whole pass.new))) }
+
+    // The most attempts and installs that it makes.
+    ensures attempts { (view pass.new).attempt.number ≤ (view pass.old).attempt.number + 1 }
+    ensures bounded { (view pass.new).install.number ≤ (view pass.old).install.number + most_in_end (board_size board.now) (length (listed pass.old)) }
 {
     exchanged(board, pass, Mode::Path)
 }
@@ -199,12 +217,15 @@ pub fn begin_vexec<H: Shape>(board: &Board<H>, pass: &mut Pass<H>) -> Result<(),
     ensures free { IsFree (view pass.new) }
     ensures kept { KeepsAll (whole pass.old) (whole pass.new) }
     ensures recorded { recorded pass.new ≡ recorded pass.old }
+    ensures attempts { (view pass.new).attempt.number ≤ (view pass.old).attempt.number + 1 }
+    ensures no_install { (view pass.new).install.number ≡ (view pass.old).install.number }
 
     // What is published.
     ensures published { OnOk result (IsPublished pass.new) }
     ensures noted { OnOk result (KnowsAbove (knows pass.old).told (whole pass.new) (exchange_by OfPath (path pass.old) (listed pass.new))) }
     ensures each { OnOk result (IsPermutation (listed pass.old) (listed pass.new)) }
     ensures same { OnOk result (IsSeatedAs pass.old pass.new × KeepsPath pass.old pass.new) }
+    ensures once { OnOk result ((view pass.new).attempt.number ≡ (view pass.old).attempt.number + 1) }
 
     // Why it isn't.
     ensures refused { IfErr result (IsAtLastAttempt (view pass.old)) }
@@ -241,10 +262,15 @@ pub fn finish_vexec<H: Shape>(board: &Board<H>, pass: &mut Pass<H>) -> Result<u6
 
     // Why it was lost.
     ensures lost { OnErr result (HasFailed (whole pass.new)) }
+    ensures once { (view pass.new).attempt.number ≡ (view pass.old).attempt.number }
     ensures changed { IfErr result (λ e. IfChanged e (IsPast (visits pass.old) (listed pass.old) (whole pass.new))) }
     ensures locked { IfErr result (λ e. IfLocked e (HasRival (whole pass.new))) }
     ensures blocked { IfErr result (λ e. IfBlocked e (WasInTheWay (board_size board.now).seats (view pass.old) (whole pass.new))) }
     ensures numbers { IfErr result (λ e. IfNumbers e (IsAtLast (whole pass.new))) }
+
+    // The most attempts and installs that it makes.
+    ensures number { (view pass.new).attempt.number ≡ (view pass.old).attempt.number }
+    ensures bounded { (view pass.new).install.number ≤ (view pass.old).install.number + most_in_end (board_size board.now) (length (listed pass.old)) }
 {
     ended(board, pass)
 }

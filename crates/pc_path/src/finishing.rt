@@ -1,5 +1,5 @@
 //! The end of an operation's exchange.
-ghost use Rattle.std.specs.Prelude.{◌≡◌, ◌≢◌, ◌⊎◌, ◌-◌, ◌<◌, ◌≤◌, ◌++◌, List, [], Some, None, length, IfOk, IfErr, IfSome, IfNone, OnErr};
+ghost use Rattle.std.specs.Prelude.{◌≡◌, ◌≢◌, ◌⊎◌, ◌-◌, ◌+◌, ◌<◌, ◌≤◌, ◌++◌, List, [], Some, None, length, IfOk, IfErr, IfSome, IfNone, OnErr};
 ghost use Rattle.pc_model.specs.declared.cell.Field.TheVariants.{Version};
 ghost use Rattle.pc_model.specs.Exchanges.{Exchange};
 ghost use Rattle.pc_rule_law.specs.Conditions.{CanWrite, IsFree};
@@ -9,6 +9,7 @@ ghost use Rattle.pc_exchange_law.specs.Paths.{dropped};
 ghost use Rattle.pc_rule.specs.declared.opening.Place.{Place as PlaceOf};
 ghost use Rattle.pc_rule.specs.declared.visit.Visit.{Visit as VisitOf};
 ghost use Rattle.pc_rule.specs.Passes.{whole, view, visits, path, listed, recorded, carried, taken_down, board_size, IsPassOf, IsSeatedAs, KeepsPath, SitsAs};
+ghost use Rattle.pc_kcas.specs.Bounds.{most_in_end};
 ghost use Rattle.pc_kcas.specs.Exchanges.{visit_count, IsPublished, KnowsAbove};
 ghost use Rattle.pc_kcas.specs.Verdicts.{KeepsAll, KnowsWon, KnowsLost, KnowsChanged, KnowsRival, WasBlocked, IsAtLast, IfWon, IfChanged as IfNodeChanged, IfLocked as IfNodeLocked, IfBlocked as IfStuck, IfNumbers as IfNoNumber};
 ghost use Rattle.pc_path.specs.Exchanges.{answer_as, HasTakenPlace, HasFailed, HasRival, IsPast, WasInTheWay, WasSeen, IsListedFrom, IsCovered};
@@ -122,6 +123,7 @@ fn finished<H: Shape>(board: &Board<H>, pass: &mut Pass<H>) -> Outcome
     ensures visits { IfNodeLocked result.verdict (λ n by. 0 < visit_count (view pass.old)) }
     ensures blocked { IfStuck result.verdict (WasBlocked (board_size board.now).seats pass.old pass.new) }
     ensures numbers { IfNoNumber result.verdict (IsAtLast (whole pass.new)) }
+    ensures bounded { (view pass.new).install.number ≤ (view pass.old).install.number + most_in_end (board_size board.now) (length (listed pass.old)) }
 {
     let verdict = finish_listed(board, pass);
     let seen = seen_by(pass, verdict);
@@ -157,6 +159,7 @@ pub(crate) fn ended<H: Shape>(board: &Board<H>, pass: &mut Pass<H>) -> Result<u6
     ensures walked { IfErr result (λ e. IfLocked e (λ n by. 0 < visit_count (view pass.old))) }
     ensures blocked { IfErr result (λ e. IfBlocked e (WasInTheWay (board_size board.now).seats (view pass.old) (whole pass.new))) }
     ensures numbers { IfErr result (λ e. IfNumbers e (IsAtLast (whole pass.new))) }
+    ensures bounded { (view pass.new).install.number ≤ (view pass.old).install.number + most_in_end (board_size board.now) (length (listed pass.old)) }
 {
     let outcome = finished(board, pass);
     let answer = answer_of(outcome.verdict, outcome.seen);

@@ -1,10 +1,11 @@
 //! The reading of a word.
-ghost use Rattle.std.specs.Prelude.{◌≡◌, IfOk, IfErr, OnErr, true};
+ghost use Rattle.std.specs.Prelude.{◌≡◌, ◌+◌, ◌^◌, ◌<◌, ◌≤◌, IfOk, IfErr, OnErr, true};
 ghost use Rattle.pc_words.specs.declared.word.WordKind.TheVariants.{Plain};
 ghost use Rattle.pc_rule_law.specs.Conditions.{IsFree};
 ghost use Rattle.pc_exchange_law.specs.Slots.{IsHeld};
 ghost use Rattle.pc_exchange_law.specs.Paths.{with_read};
 ghost use Rattle.pc_rule.specs.Passes.{whole, view, knows, visits, path, board_size, IsPassOf, StaysSeated, HasNode};
+ghost use Rattle.pc_kcas.specs.Bounds.{most_in_help};
 ghost use Rattle.pc_kcas.specs.Obstacles.{GoesOn};
 ghost use Rattle.pc_kcas.specs.Takings.{IsAtLastInstall};
 ghost use Rattle.pc_path.specs.Faults.{IsBusy, IfBusy, IfNumbers};
@@ -40,12 +41,16 @@ pub fn read<H: Shape>(
 
     // What it read, and that this counts where the node was visited.
     ensures found { IfOk result (HasFound (whole pass.old) (whole pass.new) node field) }
+    ensures fits { IfOk result (λ v. v < 2 ^ 62) }
     ensures counted { IfOk result (λ v. path pass.new ≡ with_read (path pass.old) node field (Plain v)) }
 
     // Why it read nothing.
     ensures kept { OnErr result (path pass.new ≡ path pass.old) }
     ensures busy { IfErr result (λ e. IfBusy e (IsBusy (board_size board.now).seats (view pass.old) (whole pass.new) node field)) }
     ensures numbers { IfErr result (λ e. IfNumbers e (IsAtLastInstall (view pass.new))) }
+
+    // The most installs that it makes: those of one help.
+    ensures bounded { (view pass.new).install.number ≤ (view pass.old).install.number + most_in_help (board_size board.now) }
 {
     let mut met = Met {
         completed: None,

@@ -1,5 +1,5 @@
 //! The validated read of a path.
-ghost use Rattle.std.specs.Prelude.{◌≡◌, ◌≢◌, ◌<◌, ◌≤◌, ◌++◌, ℕ, [], true, None, length, IfOk, IfErr, OnOk, OnErr};
+ghost use Rattle.std.specs.Prelude.{◌≡◌, ◌≢◌, ◌+◌, ◌<◌, ◌≤◌, ◌++◌, ℕ, [], true, None, length, IfOk, IfErr, OnOk, OnErr};
 ghost use Rattle.pc_rule_law.specs.Conditions.{IsFree};
 ghost use Rattle.pc_rule_law.specs.Past.{Has};
 ghost use Rattle.pc_protocol.specs.Notes.{in_run};
@@ -10,6 +10,7 @@ ghost use Rattle.pc_rule.specs.Passes.{whole, view, knows, visits, path, listed,
 ghost use Rattle.pc_kcas.specs.Obstacles.{GoesOn};
 ghost use Rattle.pc_kcas.specs.Takings.{IsAtLastInstall};
 ghost use Rattle.pc_kcas.specs.Verdicts.{IsAtLast};
+ghost use Rattle.pc_path.specs.Bounds.{most_in_checks};
 ghost use Rattle.pc_path.specs.Losses.{HasChanged, IsBlockedAt, IfChanged, IfLocked, IfBlocked, IfNumbers};
 
 use crate::checking::{check_visit, draw_stamp};
@@ -33,6 +34,7 @@ fn check_visits<H: Shape>(board: &Board<H>, pass: &mut Pass<H>) -> Result<(), Lo
     ensures locked { IfErr result (λ e. IfLocked e (λ n by. ⊥)) }
     ensures blocked { IfErr result (λ e. IfBlocked e (IsBlockedAt (board_size board.now).seats (view pass.old) (whole pass.new) (visits pass.old))) }
     ensures numbers { IfErr result (λ e. IfNumbers e (IsAtLastInstall (view pass.new))) }
+    ensures bounded { (view pass.new).install.number ≤ (view pass.old).install.number + most_in_checks (board_size board.now) (length (visits pass.old)) }
 {
     let count = pass.visits().len();
     let mut at = 0;
@@ -59,6 +61,7 @@ fn validated<H: Shape>(board: &Board<H>, pass: &mut Pass<H>) -> Result<u64, Lost
     ensures locked { IfErr result (λ e. IfLocked e (λ n by. ⊥)) }
     ensures blocked { IfErr result (λ e. IfBlocked e (IsBlockedAt (board_size board.now).seats (view pass.old) (whole pass.new) (visits pass.old))) }
     ensures numbers { IfErr result (λ e. IfNumbers e (IsAtLast (whole pass.new))) }
+    ensures bounded { (view pass.new).install.number ≤ (view pass.old).install.number + most_in_checks (board_size board.now) (length (visits pass.old)) }
 {
     match draw_stamp(board, pass) {
         Err(numbers) => Err(Lost::Numbers(numbers)),
@@ -105,6 +108,9 @@ pub fn validate<H: Shape>(board: &Board<H>, pass: &mut Pass<H>) -> Result<u64, L
     ensures locked { IfErr result (λ e. IfLocked e (λ n by. ⊥)) }
     ensures blocked { IfErr result (λ e. IfBlocked e (IsBlockedAt (board_size board.now).seats (view pass.old) (whole pass.new) (visits pass.old))) }
     ensures numbers { IfErr result (λ e. IfNumbers e (IsAtLast (whole pass.new))) }
+
+    // The most installs that it makes: those of one help for each visit.
+    ensures bounded { (view pass.new).install.number ≤ (view pass.old).install.number + most_in_checks (board_size board.now) (length (visits pass.old)) }
 {
     let answer = validated(board, pass);
     conclude(pass, answer);

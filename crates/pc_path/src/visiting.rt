@@ -8,6 +8,7 @@ ghost use Rattle.pc_exchange_law.specs.Slots.{IsHeld};
 ghost use Rattle.pc_exchange_law.specs.Paths.{last_version, is_visitable, more_visits, with_visit};
 ghost use Rattle.pc_rule.specs.Passes.{whole, view, knows, visits, path, board_size, IsPassOf, StaysSeated, HasNode};
 ghost use Rattle.pc_rule.specs.Walking.{visits_in};
+ghost use Rattle.pc_kcas.specs.Bounds.{most_in_help};
 ghost use Rattle.pc_kcas.specs.Obstacles.{GoesOn};
 ghost use Rattle.pc_kcas.specs.Takings.{IsAtLastInstall};
 ghost use Rattle.pc_path.specs.Faults.{visit_fault, IsBusy, IsMarkedNode, IsAtLastNumber, IsOutOfVersions, IsLong, IfBusy, IfNumbers, IfBusyThere, IfMarked, IfLong, IfNoNumbers};
@@ -39,6 +40,7 @@ fn find_version<H: Shape>(board: &Board<H>, pass: &mut Pass<H>, node: u32) -> Re
     ensures kept { OnErr result ((path pass.new ≡ path pass.old) × (visits pass.new ≡ visits pass.old)) }
     ensures busy { IfErr result (λ e. IfBusy e (IsBusy (board_size board.now).seats (view pass.old) (whole pass.new) node Version)) }
     ensures numbers { IfErr result (λ e. IfNumbers e (IsAtLastInstall (view pass.new))) }
+    ensures bounded { (view pass.new).install.number ≤ (view pass.old).install.number + most_in_help (board_size board.now) }
 {
     let mut met = Met {
         completed: None,
@@ -115,6 +117,9 @@ pub fn visit<H: Shape>(board: &Board<H>, pass: &mut Pass<H>, node: u32) -> Resul
     ensures marked { IfErr result (λ e. IfMarked e (IsMarkedNode (whole pass.old) (whole pass.new) node)) }
     ensures busy { IfErr result (λ e. IfBusyThere e (IsBusy (board_size board.now).seats (view pass.old) (whole pass.new) node Version)) }
     ensures numbers { IfErr result (λ e. IfNoNumbers e (IsAtLastNumber (whole pass.old) (whole pass.new) node)) }
+
+    // The most installs that it makes: those of one help.
+    ensures bounded { (view pass.new).install.number ≤ (view pass.old).install.number + most_in_help (board_size board.now) }
 {
     if !board.has_room_to_visit(pass) {
         return Err(VisitFault::Long {

@@ -1,6 +1,6 @@
 //! The reference of another pass that stands in a word: an install is completed, and an exchange is helped, at most one of each
 //! in one word. So a call that looks at a word comes to an end, whatever other passes do.
-ghost use Rattle.std.specs.Prelude.{◌≡◌, ℕ, ◌<◌, IfOk, IfErr, IfSome, IfNone};
+ghost use Rattle.std.specs.Prelude.{◌≡◌, ℕ, ◌+◌, ◌^◌, ◌<◌, ◌≤◌, IfOk, IfErr, OnErr, IfSome, IfNone};
 ghost use Rattle.pc_model.specs.declared.cell.Field.{Field as FieldOf};
 ghost use Rattle.pc_words.specs.declared.word.WordKind.TheVariants.{Plain};
 ghost use Rattle.pc_words.specs.Words.{kind, IsWord};
@@ -9,8 +9,10 @@ ghost use Rattle.pc_rule_law.specs.Views.{View};
 ghost use Rattle.pc_rule.specs.declared.refs.RefKind.TheVariants.{Install, Exchange};
 ghost use Rattle.pc_rule.specs.Passes.{whole, view, board_size, IsPassOf, IsSamePass};
 ghost use Rattle.pc_dcss.specs.Installs.{word_of};
+ghost use Rattle.pc_kcas.specs.Bounds.{most_in_help};
 ghost use Rattle.pc_kcas.specs.Obstacles.{GoesOn};
 ghost use Rattle.pc_kcas.specs.Takings.{IsAtLastInstall};
+ghost use Rattle.pc_path.specs.Bounds.{most_helped};
 ghost use Rattle.pc_path.specs.Faults.{IsBusy, IfBusy, IfNumbers};
 ghost use Rattle.pc_path.specs.Ways.{HasMadeWay, IsInTheWay, kinds_left};
 
@@ -26,6 +28,7 @@ use pc_words::{WordKind, kind_of};
 pub(crate) fn number_in(found: u64) -> Result<u64, Ref>
     requires { IsWord found }
     ensures number { IfOk result (λ v. kind found ≡ Plain v) }
+    ensures fits { IfOk result (λ v. v < 2 ^ 62) }
     ensures reference { IfErr result (λ r. kind found ≡ word_of r.kind r.seat r.number) }
 {
     match kind_of(found) {
@@ -61,6 +64,8 @@ fn complete_once<H: Shape>(
     ensures made { (v : View) (n : ℕ) (f : FieldOf) → IsInTheWay v (whole pass.old) n f met found → IfOk result (HasMadeWay v (whole pass.new) n f) }
     ensures busy { (v : View) (n : ℕ) (f : FieldOf) → IsInTheWay v (whole pass.old) n f met found → IfErr result (λ e. IfBusy e (IsBusy (board_size board.now).seats v (whole pass.new) n f)) }
     ensures numbers { IfErr result (λ e. IfNumbers e (IsAtLastInstall (view pass.new))) }
+    ensures most { IfOk result (λ m. (view pass.new).install.number + most_helped (board_size board.now) met.helped ≤ (view pass.old).install.number + most_helped (board_size board.now) m.helped) }
+    ensures bounded { OnErr result ((view pass.new).install.number + most_helped (board_size board.now) met.helped ≤ (view pass.old).install.number + most_in_help (board_size board.now)) }
 {
     match met.completed {
         Some(first) => Err(ReadFault::Busy {
@@ -95,6 +100,8 @@ fn help_once<H: Shape>(
     ensures made { (v : View) (n : ℕ) (f : FieldOf) → IsInTheWay v (whole pass.old) n f met found → IfOk result (HasMadeWay v (whole pass.new) n f) }
     ensures busy { (v : View) (n : ℕ) (f : FieldOf) → IsInTheWay v (whole pass.old) n f met found → IfErr result (λ e. IfBusy e (IsBusy (board_size board.now).seats v (whole pass.new) n f)) }
     ensures numbers { IfErr result (λ e. IfNumbers e (IsAtLastInstall (view pass.new))) }
+    ensures most { IfOk result (λ m. (view pass.new).install.number + most_helped (board_size board.now) met.helped ≤ (view pass.old).install.number + most_helped (board_size board.now) m.helped) }
+    ensures bounded { OnErr result ((view pass.new).install.number + most_helped (board_size board.now) met.helped ≤ (view pass.old).install.number + most_in_help (board_size board.now)) }
 {
     if let Some(first) = met.helped {
         return Err(ReadFault::Busy {
@@ -135,6 +142,8 @@ pub(crate) fn make_way<H: Shape>(
     ensures made { (v : View) (n : ℕ) (f : FieldOf) → IsInTheWay v (whole pass.old) n f met found → IfOk result (HasMadeWay v (whole pass.new) n f) }
     ensures busy { (v : View) (n : ℕ) (f : FieldOf) → IsInTheWay v (whole pass.old) n f met found → IfErr result (λ e. IfBusy e (IsBusy (board_size board.now).seats v (whole pass.new) n f)) }
     ensures numbers { IfErr result (λ e. IfNumbers e (IsAtLastInstall (view pass.new))) }
+    ensures most { IfOk result (λ m. (view pass.new).install.number + most_helped (board_size board.now) met.helped ≤ (view pass.old).install.number + most_helped (board_size board.now) m.helped) }
+    ensures bounded { OnErr result ((view pass.new).install.number + most_helped (board_size board.now) met.helped ≤ (view pass.old).install.number + most_in_help (board_size board.now)) }
 {
     match found.kind {
         RefKind::Install => complete_once(board, pass, found, met),

@@ -127,6 +127,10 @@ helping::help_linked-returns-clause-bounded g t c =
     installs_same z (most_in_one z) (c.args.links - k.result.links) v u w x (none_installed v u c.read_counts.ensures.later) c.end_collected-progress.ensures.no_install
     (all_words z c.in-Ok.counts.changes (c.args.links - k.result.links) u w c.in-Ok.ensures.few.0 k.ensures.bounded)
 
+pub helping::help_linked-collect-collected-requires-clause-free : goal.helping::help_linked-collect-collected-requires-clause-free
+helping::help_linked-collect-collected-requires-clause-free g t c = λ _ _.
+    free_later (view c.args.pass.now) (view c.read_counts.new.pass) c.read_counts.ensures.later c.requires.free
+
 pub helping::help_linked-collect-collected-requires-clause-come : goal.helping::help_linked-collect-collected-requires-clause-come
 helping::help_linked-collect-collected-requires-clause-come g t c = λ _ _. let r = c.read_counts.ensures in
     come_still (whole c.args.pass.now) (whole c.read_counts.new.pass) c.args.op r.later r.learns c.requires.come

@@ -12,11 +12,11 @@ use Rattle.pc_rule.specs.declared.opening.Place.{Place}
 use Rattle.pc_rule.specs.Passes.{whole, listed}
 use Rattle.pc_kcas.specs.Settling.{HasLearnt}
 use Rattle.pc_kcas.proofs.Learning.{learnt_then, clock_learnt, clock_told, withdrawn_none}
-use Rattle.pc_kcas.proofs.Cleared.{may_clear, outcome_still, cleared_so, published_learnt, clean_still}
+use Rattle.pc_kcas.proofs.Cleared.{may_clear, outcome_still, cleared_so, own_outcome, published_learnt, clean_still}
 use Rattle.pc_kcas.proofs.clearing.clear.Goals as goal
 
-pub step_16-requires-clause-may : goal.step_16-requires-clause-may
-step_16-requires-clause-may g c = λ _ _. let p = c.args.pass.now in let q = c.clear_listed.new.pass in let r = c.step_9-clock.new.pass in let e = c.clear_listed.ensures in let n = c.step_9-clock.ensures in
+pub make_idle-requires-clause-may : goal.make_idle-requires-clause-may
+make_idle-requires-clause-may g c = λ _ _. let p = c.args.pass.now in let q = c.clear_listed.new.pass in let r = c.step_9-clock.new.pass in let e = c.clear_listed.ensures in let n = c.step_9-clock.ensures in
     let m : HasLearnt (whole q) (whole r) = clock_learnt (whole q) (whole r) c.step_9-clock.result n.told n.learnt in
     let l : HasLearnt (whole p) (whole r) = learnt_then (whole p) (whole q) (whole r) e.learnt m in
     may_clear (whole r) (listed r) c.args.won c.pack-idle.result (published_learnt p r (search rules) l c.requires.published) r.one_attempt
@@ -25,18 +25,23 @@ step_16-requires-clause-may g c = λ _ _. let p = c.args.pass.now in let q = c.c
     clean_still q r i n.pass m (e.clean i (below_length (listed q) i x there)) x at)
     (search rules)
 
+pub make_idle-requires-clause-outcome : goal.make_idle-requires-clause-outcome
+make_idle-requires-clause-outcome g c = λ _ _. let p = c.args.pass.now in let q = c.clear_listed.new.pass in let r = c.step_9-clock.new.pass in let n = c.step_9-clock.ensures in
+    let l : HasLearnt (whole p) (whole r) = learnt_then (whole p) (whole q) (whole r) c.clear_listed.ensures.learnt (clock_learnt (whole q) (whole r) c.step_9-clock.result n.told n.learnt) in
+    own_outcome (whole r) c.args.won r.one_attempt (outcome_still (whole p) (whole r) c.args.won l c.requires.decided)
+
 pub returns-clause-cleared : goal.returns-clause-cleared
 returns-clause-cleared g c = let p = c.args.pass.now in let q = c.clear_listed.new.pass in let r = c.step_9-clock.new.pass in let n = c.step_9-clock.ensures in
     let l : HasLearnt (whole p) (whole r) = learnt_then (whole p) (whole q) (whole r) c.clear_listed.ensures.learnt (clock_learnt (whole q) (whole r) c.step_9-clock.result n.told n.learnt) in
-    let told = cleared_so (whole r) (whole c.step_16.new.pass) c.args.won r.one_attempt (outcome_still (whole p) (whole r) c.args.won l c.requires.decided) c.step_16.ensures.told in
+    let told = cleared_so (whole r) (whole c.make_idle.new.pass) c.args.won r.one_attempt (outcome_still (whole p) (whole r) c.args.won l c.requires.decided) c.make_idle.ensures.told in
     (whole r, withdrawn_none (whole p) (whole r) l, told.0, told.1, told.2)
 
 pub returns-clause-clean : goal.returns-clause-clean
 returns-clause-clean g c = λ i _ x at. let p = c.args.pass.now in let q = c.clear_listed.new.pass in let r = c.step_9-clock.new.pass in let n = c.step_9-clock.ensures in
     let l : HasLearnt (whole p) (whole r) = learnt_then (whole p) (whole q) (whole r) c.clear_listed.ensures.learnt (clock_learnt (whole q) (whole r) c.step_9-clock.result n.told n.learnt) in
-    let told = cleared_so (whole r) (whole c.step_16.new.pass) c.args.won r.one_attempt (outcome_still (whole p) (whole r) c.args.won l c.requires.decided) c.step_16.ensures.told in
+    let told = cleared_so (whole r) (whole c.make_idle.new.pass) c.args.won r.one_attempt (outcome_still (whole p) (whole r) c.args.won l c.requires.decided) c.make_idle.ensures.told in
     let m : HasLearnt (whole q) (whole r) = clock_learnt (whole q) (whole r) c.step_9-clock.result n.told n.learnt in
-    let before : get_elem? (listed r) i ≡ some x = subst (λ (k : List Place). get_elem? k i ≡ some x) (ap (λ v. v.items) c.step_16.ensures.pass.1) at in
+    let before : get_elem? (listed r) i ≡ some x = subst (λ (k : List Place). get_elem? k i ≡ some x) (ap (λ v. v.items) c.make_idle.ensures.pass.1) at in
     let there : get_elem? (listed q) i ≡ some x = subst (λ (k : List Place). get_elem? k i ≡ some x) (ap (λ v. v.items) n.pass.1) before in
     subst (λ (w : Whole). Has w.view.notes (clean w.view.seat w.view.attempt.number x.node x.field)) (sym told.2)
     (clean_still q r i n.pass m (c.clear_listed.ensures.clean i (below_length (listed q) i x there)) x before)
@@ -44,7 +49,7 @@ returns-clause-clean g c = λ i _ x at. let p = c.args.pass.now in let q = c.cle
 pub returns-clause-clock : goal.returns-clause-clock
 returns-clause-clock g c = let p = c.args.pass.now in let q = c.clear_listed.new.pass in let r = c.step_9-clock.new.pass in let n = c.step_9-clock.ensures in
     let l : HasLearnt (whole p) (whole r) = learnt_then (whole p) (whole q) (whole r) c.clear_listed.ensures.learnt (clock_learnt (whole q) (whole r) c.step_9-clock.result n.told n.learnt) in
-    let told = cleared_so (whole r) (whole c.step_16.new.pass) c.args.won r.one_attempt (outcome_still (whole p) (whole r) c.args.won l c.requires.decided) c.step_16.ensures.told in
+    let told = cleared_so (whole r) (whole c.make_idle.new.pass) c.args.won r.one_attempt (outcome_still (whole p) (whole r) c.args.won l c.requires.decided) c.make_idle.ensures.told in
     subst (λ (w : Whole). Has w.knows.told (clock_was c.step_9-clock.result)) (sym told.2)
     (has_right (made_by told.0 (whole r).knows.slots.named (whole r).knows.slots.spare) (whole r).knows.told (clock_was c.step_9-clock.result) (clock_told (whole q) (whole r) c.step_9-clock.result c.step_9-clock.ensures.learnt))
 

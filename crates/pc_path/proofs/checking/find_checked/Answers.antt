@@ -4,11 +4,13 @@ use Rattle.pc_model.specs.declared.cell.Field.TheVariants.{Version}
 use Rattle.pc_exchange_law.specs.Paths.{Path, MayCheck}
 use Rattle.pc_exchange_law.specs.WholePlays.{PathChecked}
 use Rattle.pc_rule.specs.declared.visit.Visit.{Visit}
-use Rattle.pc_rule.specs.Passes.{whole, knows, path}
+use Rattle.pc_rule.specs.Passes.{whole, board_size, knows, path}
 use Rattle.pc_rule.proofs.Walking.{check_stays}
+use Rattle.pc_kcas.specs.Bounds.{most_in_help}
 use Rattle.pc_kcas.proofs.Evidence.{goes_then}
 use Rattle.pc_path.specs.Checks.{IsAfterVisits}
 use Rattle.pc_path.proofs.Checked.{reference_checks_none, is_after}
+use Rattle.pc_path.proofs.Counted.{found_bounded, way_bounded}
 use Rattle.pc_path.proofs.Found.{cell_goes, cell_free, in_the_way}
 use Rattle.pc_path.proofs.Paths.{path_kept, visits_kept}
 use Rattle.pc_path.proofs.checking.find_checked.Goals as goal
@@ -76,6 +78,15 @@ loop-version-preserved g c = let x0 = whole c.args.pass.now in let x = whole c.l
       visits = visits_kept q c.make_way.new.pass c.make_way.ensures.pass.2 ∙ (s.visits ∙ inv.visits);
       goes = goes_then x0 y z (goes_then x0 x y inv.goes (cell_goes x y c.args.node Version c.step_21-found.result s.told)) c.make_way.ensures.goes_on;
       free = c.make_way.ensures.free;
+      bounded = way_bounded (board_size c.args.board.now) (whole c.args.pass.now) (whole c.loop-version.pass) (whole c.step_21-found.new.pass) c.args.node Version c.step_21-found.result c.step_21-found.ensures.told c.loop-version.met c.loop-version.invariant.bounded
+          (whole c.make_way.new.pass) _ c.in_ok-met-in-Err.ensures.most;
       made = c.in_ok-met-in-Err.ensures.made x0.view c.args.node Version
           (in_the_way x y c.args.node Version c.step_21-found.result s.told r c.in-Err.ensures.reference x0.view c.loop-version.met inv.goes.adds inv.free inv.made);
     }
+
+pub returns-in-Ok-clause-bounded : goal.returns-in-Ok-clause-bounded
+returns-in-Ok-clause-bounded g c = found_bounded (board_size c.args.board.now) (whole c.args.pass.now) (whole c.loop-version.pass) (whole c.step_21-found.new.pass) c.args.node Version c.step_21-found.result c.step_21-found.ensures.told c.loop-version.met c.loop-version.invariant.bounded
+
+pub returns-in_err-met-in-Err-clause-bounded : goal.returns-in_err-met-in-Err-clause-bounded
+returns-in_err-met-in-Err-clause-bounded g c = way_bounded (board_size c.args.board.now) (whole c.args.pass.now) (whole c.loop-version.pass) (whole c.step_21-found.new.pass) c.args.node Version c.step_21-found.result c.step_21-found.ensures.told c.loop-version.met c.loop-version.invariant.bounded
+    (whole c.make_way.new.pass) (most_in_help (board_size c.args.board.now)) c.in_err-met-in-Err.ensures.bounded

@@ -1,19 +1,19 @@
 -- The exchange ends, and what is recorded and dropped after it.
-use Rattle.std.proofs.Common.{◌<◌, [], refl, IfOk, IfErr, OnErr, sym, ap, ◌∙◌, subst}
+use Rattle.std.proofs.Common.{◌+◌, ◌<◌, ◌≤◌, length, [], refl, IfOk, IfErr, OnErr, sym, ap, ◌∙◌, subst}
 use Rattle.pc_rule_law.specs.Conditions.{CanWrite, IsFree}
 use Rattle.pc_exchange_law.specs.Paths.{dropped}
 use Rattle.pc_exchange_law.specs.Wholes.{Whole}
 use Rattle.pc_rule.specs.Carrying.{HasTakenEffect}
 use Rattle.pc_rule.specs.Passes.{whole, view, visits, listed, board_size}
 use Rattle.pc_rule.proofs.Calls.{pass_stays}
+use Rattle.pc_kcas.specs.Bounds.{most_in_end}
 use Rattle.pc_kcas.specs.Exchanges.{visit_count}
 use Rattle.pc_kcas.specs.Verdicts.{KeepsAll, KnowsWon, WasBlocked, IsAtLast}
-use Rattle.pc_kcas.specs.Verdicts.{IfChanged as IfNodeChanged}
-use Rattle.pc_path.specs.Exchanges.{HasTakenPlace, HasFailed, HasRival, IsPast, WasInTheWay, WasSeen}
+use Rattle.pc_path.specs.Exchanges.{HasTakenPlace, HasFailed, HasRival, IsPast, WasInTheWay}
 use Rattle.pc_path.specs.Losses.{IfChanged, IfLocked, IfBlocked, IfNumbers}
 use Rattle.pc_path.proofs.Answered.{won_ok, won_effect, took_place, failed_err, changed_err, locked_err, blocked_err, numbers_err}
 use Rattle.pc_path.proofs.Endings.{whole_same, concluded_sits, concluded_of, seated_sits, recorded_ok, recorded_err}
-use Rattle.pc_path.proofs.Paths.{path_kept, visits_kept}
+use Rattle.pc_path.proofs.Paths.{path_kept}
 use Rattle.pc_path.proofs.finishing.ended.Goals as goal
 
 pub conclude-requires-clause-effect : goal.conclude-requires-clause-effect
@@ -96,3 +96,8 @@ returns-clause-numbers g c = let q = c.finished-outcome.new.pass in
     subst (λ (y : Whole). IfErr c.answer_of-answer.result (λ e. IfNumbers e (IsAtLast y))) (sym (whole_same q c.conclude.new.pass c.conclude.ensures.only))
     (subst (λ a. IfErr a (λ e. IfNumbers e (IsAtLast (whole q)))) (sym c.answer_of-answer.ensures)
     (numbers_err (IsAtLast (whole q)) c.finished-outcome.result.verdict c.finished-outcome.result.seen c.finished-outcome.ensures.numbers))
+
+pub returns-clause-bounded : goal.returns-clause-bounded
+returns-clause-bounded g c = let p = c.args.pass.now in
+    subst (λ (y : Whole). y.view.install.number ≤ (view p).install.number + most_in_end (board_size c.args.board.now) (length (listed p)))
+    (sym (whole_same c.finished-outcome.new.pass c.conclude.new.pass c.conclude.ensures.only)) c.finished-outcome.ensures.bounded

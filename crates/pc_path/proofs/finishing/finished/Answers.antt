@@ -1,11 +1,10 @@
 -- The exchange has ended, and the list is dropped.
-use Rattle.std.proofs.Common.{List, ◌≡◌, ℕ, ◌+◌, ◌-◌, ◌≤◌, length, ap, ◌∙◌, subst, sym}
+use Rattle.std.proofs.Common.{List, ◌+◌, ◌-◌, ◌≤◌, length, ap, ◌∙◌, subst, sym}
 use Rattle.pc_exchange_law.specs.Wholes.{Whole}
 use Rattle.pc_rule_law.specs.Conditions.{IsFree, CanWrite}
-use Rattle.pc_rule_law.specs.Past.{Has}
-use Rattle.pc_rule_law.specs.Views.{View}
 use Rattle.pc_rule.specs.Passes.{whole, view, listed, visits, board_size}
 use Rattle.pc_rule.proofs.Calls.{only_listed, pass_stays}
+use Rattle.pc_kcas.specs.Bounds.{most_in_end}
 use Rattle.pc_kcas.specs.Exchanges.{own_exchange}
 use Rattle.pc_kcas.specs.Verdicts.{KeepsAll, KnowsWon, KnowsLost, KnowsChanged, KnowsRival, KnewBetween, IsBlocked, IsAtLast, IfWon, IfChanged, IfLocked, IfBlocked, IfNumbers}
 use Rattle.pc_kcas.proofs.Finished.{seated_then}
@@ -65,3 +64,8 @@ pub returns-clause-seen : goal.returns-clause-seen
 returns-clause-seen g c = let p = c.args.pass.now in let q = c.finish_listed-verdict.new.pass in let e = c.finish_listed-verdict.ensures in
     subst (λ (l : List Visit). IfChanged c.finish_listed-verdict.result (λ n. WasSeen l (listed p) n c.seen_by-seen.result)) (ap (λ v. v.items) e.path.1)
     (subst (λ (l : List Place). IfChanged c.finish_listed-verdict.result (λ n. WasSeen (visits q) l n c.seen_by-seen.result)) (ap (λ v. v.items) e.same) c.seen_by-seen.ensures)
+
+pub returns-clause-bounded : goal.returns-clause-bounded
+returns-clause-bounded g c = let p = c.args.pass.now in
+    subst (λ (y : Whole). y.view.install.number ≤ (view p).install.number + most_in_end (board_size c.args.board.now) (length (listed p)))
+    (sym (ap (λ t. t.me.0) c.drop_listed.ensures.only.0)) c.finish_listed-verdict.ensures.bounded

@@ -1,10 +1,12 @@
 -- The load tells a number, or a reference that is made to leave the word.
 use Rattle.std.proofs.Common.{rules, ap, ◌∙◌}
 use Rattle.pc_words.specs.Words.{kind}
-use Rattle.pc_rule.specs.Passes.{whole, path}
+use Rattle.pc_rule.specs.Passes.{whole, board_size, path}
 use Rattle.pc_exchange_law.specs.Paths.{Path}
 use Rattle.pc_rule.proofs.Walking.{read_same}
+use Rattle.pc_kcas.specs.Bounds.{most_in_help}
 use Rattle.pc_kcas.proofs.Evidence.{goes_then}
+use Rattle.pc_path.proofs.Counted.{found_bounded, way_bounded}
 use Rattle.pc_path.proofs.Found.{held_goes, cell_goes, cell_free, in_the_way}
 use Rattle.pc_path.proofs.Paths.{reference_read, path_kept, visits_kept}
 use Rattle.pc_path.proofs.reading.read.Goals as goal
@@ -56,6 +58,15 @@ loop-number-preserved g c = let x0 = whole c.args.pass.now in let x = whole c.lo
       visits = visits_kept c.step_5_read-found.new.pass c.make_way.new.pass c.make_way.ensures.pass.2 ∙ (s.visits ∙ inv.visits);
       goes = goes_then x0 y z (goes_then x0 x y inv.goes (cell_goes x y c.args.node c.args.field c.step_5_read-found.result s.told)) c.make_way.ensures.goes_on;
       free = c.make_way.ensures.free;
+      bounded = way_bounded (board_size c.args.board.now) (whole c.args.pass.now) (whole c.loop-number.pass) (whole c.step_5_read-found.new.pass) c.args.node c.args.field c.step_5_read-found.result c.step_5_read-found.ensures.told c.loop-number.met c.loop-number.invariant.bounded
+          (whole c.make_way.new.pass) _ c.in_ok-met-in-Err.ensures.most;
       made = c.in_ok-met-in-Err.ensures.made x0.view c.args.node c.args.field
           (in_the_way x y c.args.node c.args.field c.step_5_read-found.result s.told r c.in-Err.ensures.reference x0.view c.loop-number.met inv.goes.adds inv.free inv.made);
     }
+
+pub returns-in-Ok-clause-bounded : goal.returns-in-Ok-clause-bounded
+returns-in-Ok-clause-bounded g c = found_bounded (board_size c.args.board.now) (whole c.args.pass.now) (whole c.loop-number.pass) (whole c.step_5_read-found.new.pass) c.args.node c.args.field c.step_5_read-found.result c.step_5_read-found.ensures.told c.loop-number.met c.loop-number.invariant.bounded
+
+pub returns-in_err-met-in-Err-clause-bounded : goal.returns-in_err-met-in-Err-clause-bounded
+returns-in_err-met-in-Err-clause-bounded g c = way_bounded (board_size c.args.board.now) (whole c.args.pass.now) (whole c.loop-number.pass) (whole c.step_5_read-found.new.pass) c.args.node c.args.field c.step_5_read-found.result c.step_5_read-found.ensures.told c.loop-number.met c.loop-number.invariant.bounded
+    (whole c.make_way.new.pass) (most_in_help (board_size c.args.board.now)) c.in_err-met-in-Err.ensures.bounded

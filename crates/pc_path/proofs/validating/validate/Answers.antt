@@ -1,5 +1,5 @@
 -- The read, and what is recorded and dropped after it.
-use Rattle.std.proofs.Common.{Bool, [], None, IfOk, IfErr, sym, ap, ◌∙◌, subst}
+use Rattle.std.proofs.Common.{Bool, [], None, length, ◌+◌, ◌≤◌, IfOk, IfErr, sym, ap, ◌∙◌, subst}
 use Rattle.pc_rule_law.specs.Conditions.{IsFree}
 use Rattle.pc_rule_law.specs.Past.{Has}
 use Rattle.pc_protocol.specs.Notes.{in_run}
@@ -9,6 +9,7 @@ use Rattle.pc_rule.specs.Passes.{whole, view, visits, path, board_size}
 use Rattle.pc_rule.proofs.Calls.{pass_stays}
 use Rattle.pc_kcas.specs.Obstacles.{GoesOn}
 use Rattle.pc_kcas.specs.Verdicts.{IsAtLast}
+use Rattle.pc_path.specs.Bounds.{most_in_checks}
 use Rattle.pc_path.specs.Losses.{HasChanged, IsBlockedAt, IfChanged, IfBlocked, IfNumbers}
 use Rattle.pc_path.proofs.Endings.{whole_same, concluded_sits, concluded_of, seated_sits, recorded_ok, recorded_err, read_effect}
 use Rattle.pc_path.proofs.validating.validate.Goals as goal
@@ -65,3 +66,8 @@ pub returns-clause-numbers : goal.returns-clause-numbers
 returns-clause-numbers g c = let q = c.validated-answer.new.pass in let r = c.conclude.new.pass in
     subst (λ (y : Whole). IfErr c.validated-answer.result (λ e. IfNumbers e (IsAtLast y))) (sym (whole_same q r c.conclude.ensures.only))
     c.validated-answer.ensures.numbers
+
+pub returns-clause-bounded : goal.returns-clause-bounded
+returns-clause-bounded g c = let q = c.validated-answer.new.pass in let r = c.conclude.new.pass in let p = c.args.pass.now in
+    subst (λ (y : Whole). y.view.install.number ≤ (view p).install.number + most_in_checks (board_size c.args.board.now) (length (visits p))) (sym (whole_same q r c.conclude.ensures.only))
+    c.validated-answer.ensures.bounded

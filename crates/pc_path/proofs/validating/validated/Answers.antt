@@ -1,9 +1,11 @@
 -- The stamp, and the checks.
-use Rattle.std.proofs.Common.{List, subst}
+use Rattle.std.proofs.Common.{List, length, ◌+◌, ◌≤◌, subst}
 use Rattle.pc_rule.specs.declared.visit.Visit.{Visit}
-use Rattle.pc_rule.specs.Passes.{whole, visits, board_size}
+use Rattle.pc_rule.specs.Passes.{whole, view, visits, board_size}
 use Rattle.pc_kcas.proofs.Evidence.{goes_then}
 use Rattle.pc_path.specs.Losses.{IsBlockedAt, IfBlocked}
+use Rattle.pc_path.specs.Bounds.{most_in_checks}
+use Rattle.pc_path.proofs.Counted.{none_before, none_only}
 use Rattle.pc_path.proofs.Losing.{blocked_since}
 use Rattle.pc_path.proofs.validating.validated.Goals as goal
 
@@ -17,3 +19,16 @@ returns-in-Err-check_visits-clause-blocked g c = let links = (board_size c.args.
 
 pub returns-in-Ok-check_visits-clause-goes_on : goal.returns-in-Ok-check_visits-clause-goes_on
 returns-in-Ok-check_visits-clause-goes_on g c = goes_then (whole c.args.pass.now) (whole c.draw_stamp.new.pass) (whole c.check_visits.new.pass) c.draw_stamp.ensures.goes_on c.check_visits.ensures.goes_on
+
+pub returns-in-Err-check_visits-clause-bounded : goal.returns-in-Err-check_visits-clause-bounded
+returns-in-Err-check_visits-clause-bounded g c = let z = board_size c.args.board.now in let o = view c.args.pass.now in let p = view c.draw_stamp.new.pass in let q = view c.check_visits.new.pass in
+    subst (λ (l : List Visit). q.install.number ≤ o.install.number + most_in_checks z (length l)) c.draw_stamp.ensures.visits
+    (none_before o p q (most_in_checks z (length (visits c.draw_stamp.new.pass))) c.draw_stamp.ensures.no_install c.check_visits.ensures.bounded)
+
+pub returns-in-Ok-check_visits-clause-bounded : goal.returns-in-Ok-check_visits-clause-bounded
+returns-in-Ok-check_visits-clause-bounded g c = let z = board_size c.args.board.now in let o = view c.args.pass.now in let p = view c.draw_stamp.new.pass in let q = view c.check_visits.new.pass in
+    subst (λ (l : List Visit). q.install.number ≤ o.install.number + most_in_checks z (length l)) c.draw_stamp.ensures.visits
+    (none_before o p q (most_in_checks z (length (visits c.draw_stamp.new.pass))) c.draw_stamp.ensures.no_install c.check_visits.ensures.bounded)
+
+pub returns-in-Err-clause-bounded : goal.returns-in-Err-clause-bounded
+returns-in-Err-clause-bounded g c = none_only (view c.args.pass.now) (view c.draw_stamp.new.pass) (most_in_checks (board_size c.args.board.now) (length (visits c.args.pass.now))) c.draw_stamp.ensures.no_install

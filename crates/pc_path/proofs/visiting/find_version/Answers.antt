@@ -2,8 +2,10 @@
 use Rattle.std.proofs.Common.{rules, ◌∙◌}
 use Rattle.pc_model.specs.declared.cell.Field.TheVariants.{Version}
 use Rattle.pc_words.specs.Words.{kind}
-use Rattle.pc_rule.specs.Passes.{whole, visits, path}
+use Rattle.pc_rule.specs.Passes.{whole, board_size, visits, path}
+use Rattle.pc_kcas.specs.Bounds.{most_in_help}
 use Rattle.pc_kcas.proofs.Evidence.{goes_then}
+use Rattle.pc_path.proofs.Counted.{found_bounded, way_bounded}
 use Rattle.pc_path.proofs.Found.{held_goes, cell_goes, cell_free, in_the_way}
 use Rattle.pc_path.proofs.Paths.{reference_visited, reference_visits, path_kept, visits_kept}
 use Rattle.pc_path.proofs.visiting.find_version.Goals as goal
@@ -51,6 +53,15 @@ loop-version-preserved g c = let x0 = whole c.args.pass.now in let x = whole c.l
           ∙ (reference_visits (visits c.loop-version.pass) c.args.node (kind c.step_5_visit-found.result) r.kind r.seat r.number c.in-Err.ensures.reference ∙ inv.visits));
       goes = goes_then x0 y z (goes_then x0 x y inv.goes (cell_goes x y c.args.node Version c.step_5_visit-found.result s.told)) c.make_way.ensures.goes_on;
       free = c.make_way.ensures.free;
+      bounded = way_bounded (board_size c.args.board.now) (whole c.args.pass.now) (whole c.loop-version.pass) (whole c.step_5_visit-found.new.pass) c.args.node Version c.step_5_visit-found.result c.step_5_visit-found.ensures.told c.loop-version.met c.loop-version.invariant.bounded
+          (whole c.make_way.new.pass) _ c.in_ok-met-in-Err.ensures.most;
       made = c.in_ok-met-in-Err.ensures.made x0.view c.args.node Version
           (in_the_way x y c.args.node Version c.step_5_visit-found.result s.told r c.in-Err.ensures.reference x0.view c.loop-version.met inv.goes.adds inv.free inv.made);
     }
+
+pub returns-in-Ok-clause-bounded : goal.returns-in-Ok-clause-bounded
+returns-in-Ok-clause-bounded g c = found_bounded (board_size c.args.board.now) (whole c.args.pass.now) (whole c.loop-version.pass) (whole c.step_5_visit-found.new.pass) c.args.node Version c.step_5_visit-found.result c.step_5_visit-found.ensures.told c.loop-version.met c.loop-version.invariant.bounded
+
+pub returns-in_err-met-in-Err-clause-bounded : goal.returns-in_err-met-in-Err-clause-bounded
+returns-in_err-met-in-Err-clause-bounded g c = way_bounded (board_size c.args.board.now) (whole c.args.pass.now) (whole c.loop-version.pass) (whole c.step_5_visit-found.new.pass) c.args.node Version c.step_5_visit-found.result c.step_5_visit-found.ensures.told c.loop-version.met c.loop-version.invariant.bounded
+    (whole c.make_way.new.pass) (most_in_help (board_size c.args.board.now)) c.in_err-met-in-Err.ensures.bounded

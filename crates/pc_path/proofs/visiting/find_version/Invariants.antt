@@ -1,9 +1,10 @@
 -- What was met in the word so far left it; of each kind once.
-use Rattle.std.proofs.Common.{◌≡◌}
+use Rattle.std.proofs.Common.{◌≡◌, ◌+◌, ◌≤◌}
 use Rattle.pc_model.specs.declared.cell.Field.TheVariants.{Version}
 use Rattle.pc_rule_law.specs.Conditions.{IsFree}
-use Rattle.pc_rule.specs.Passes.{whole, view, visits, path, StaysSeated}
+use Rattle.pc_rule.specs.Passes.{whole, view, visits, path, board_size, StaysSeated}
 use Rattle.pc_kcas.specs.Obstacles.{GoesOn}
+use Rattle.pc_path.specs.Bounds.{most_helped}
 use Rattle.pc_path.specs.Ways.{HasMadeWay, kinds_left}
 use Rattle.pc_path.proofs.visiting.find_version.Given as goal
 
@@ -15,6 +16,7 @@ invariant-loop-version g l = record {
   goes : GoesOn (whole l.initial.pass) (whole l.pass);
   free : IsFree (view l.pass);
   made : HasMadeWay (view l.initial.pass) (whole l.pass) l.node Version l.met;
+  bounded : (view l.pass).install.number ≤ (view l.initial.pass).install.number + most_helped (board_size l.board) l.met.helped;
 }
 
 abbrev pub decreases-loop-version : goal.decreases-loop-version
