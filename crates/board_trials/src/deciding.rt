@@ -3,7 +3,7 @@
 ghost use Rattle.std.specs.Prelude.{◌≡◌, ◌<◌, ◌≤◌, [], true, false, length, vec_len};
 ghost use Rattle.pc_rule_law.specs.Conditions.{IsFree, CanWrite};
 ghost use Rattle.pc_exchange_law.specs.Ties.{last_stamp};
-ghost use Rattle.pc_rule.specs.Passes.{view, knows, aim, listed, board_size, IsPassOf, IsSeatedAs, IsSamePass};
+ghost use Rattle.pc_rule.specs.Passes.{view, knows, aim, listed, board_size, IsPassOf, IsSeatedAs, IsSamePass, IsSameButSlots};
 ghost use Rattle.pc_rule.specs.Shares.{AreAll, NoneTried};
 ghost use Rattle.pc_dcss.specs.Installs.{KeepsNotes, KeepsAttempt};
 ghost use Rattle.pc_kcas.specs.Exchanges.{IsUncleared, IsPublished};
@@ -111,7 +111,7 @@ fn cleared(board: &Board<Loose>, pass: &mut Pass<Loose>) -> bool
     requires published { IsUncleared pass.old }
     requires free { IsFree (view pass.old) }
     requires succeeded { HasSucceeded pass.old }
-    ensures same { IsSamePass pass.old pass.new }
+    ensures same { IsSameButSlots pass.old pass.new }
     ensures free { IsFree (view pass.new) }
 {
     let count = pass.listed().len();
@@ -126,6 +126,7 @@ fn cleared(board: &Board<Loose>, pass: &mut Pass<Loose>) -> bool
         number: pass.attempts(),
         stage: Stage::Idle,
     });
+    pass.tell_won(true);
     step_16(board, pass, idle);
     true
 }
@@ -135,7 +136,7 @@ fn carried_out(board: &Board<Loose>, pass: &mut Pass<Loose>) -> Option<(bool, bo
     requires pass { IsPassOf board.now pass.old }
     requires published { IsPublished pass.old }
     requires free { IsFree (view pass.old) }
-    ensures same { IsSamePass pass.old pass.new }
+    ensures same { IsSameButSlots pass.old pass.new }
     ensures free { IsFree (view pass.new) }
 {
     let held = install_first(board, pass, 2);

@@ -318,7 +318,7 @@ ok_through {E} {D} Q P v (Err e) s cases is holds = absurd (subst (λ (t : Resul
 -- ---- what an exchange that took effect tells
 
 above_none : (s : ℕ) → IsAboveSeen [] s
-above_none s = record { clock = λ c at. absurd (nothing_noted (clock_was c) at); stamps = λ t seen. absurd (none_seen t seen) }
+above_none s = record { clock = λ c at. absurd (nothing_noted (clock_was c) at); stamps = λ t seen. absurd (none_seen t seen); reads = λ n v x b f at. absurd (nothing_noted (read_word n v f x b) at) }
   where
     nothing_noted : (n : Note) → Has [] n → ⊥
     nothing_noted n at = some-ne-none n (sym at.1)

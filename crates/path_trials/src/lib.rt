@@ -12,6 +12,8 @@ mod reads;
 #[cfg(test)]
 mod recording;
 #[cfg(test)]
+mod spares;
+#[cfg(test)]
 mod stopping;
 #[cfg(test)]
 mod stops;
